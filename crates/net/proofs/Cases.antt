@@ -1,0 +1,42 @@
+-- Document 01's marked cases, the list of check numbers, and a case where two refusals hold: all by computation.
+-- Assumes nothing.
+use mathlib.Core.Path.{_≡_, refl}
+use mathlib.Core.Bool.{Bool, true, false}
+use mathlib.Core.List.{List, [], _∷_}
+use Prim.Native.Nat.{ℕ}
+use Rattle.net.specs.Tests.{keep}
+use Rattle.net.specs.Net.{Marking, Net}
+use Rattle.net.specs.Rules.{netRule}
+use Rattle.net.specs.Checks.{Check, numbers}
+use Rattle.net.specs.Journal.{Journal, refused, transition, begin, act, play, checks, readChecks, fireChecks, undoChecks}
+use Rattle.net.specs.Cases.{netB, fireOf, marked, AllHold}
+use Rattle.net.specs.declared.Transition.{Transition}
+use Rattle.net.specs.declared.Key.{Key}
+
+-- M1 to M12.
+pub marked-hold : AllHold marked
+marked-hold = (refl, (refl, (refl, (refl, (refl, (refl, (refl, (refl, (refl, (refl, (refl, (refl, tt))))))))))))
+
+-- Sheet B's net meets the sheet's rules.
+pub netB-rule : netRule netB ≡ true
+netB-rule = refl
+
+-- The refusals of a command, in checking order.
+pub read-numbers : (c : List ℕ) → numbers (readChecks c) ≡ 21 ∷ 11 ∷ []
+read-numbers c = refl
+
+pub fire-numbers : (net : Net) (j : Journal) (t : Transition) → numbers (fireChecks net j t) ≡ 12 ∷ 13 ∷ 14 ∷ 15 ∷ 16 ∷ 17 ∷ 18 ∷ []
+fire-numbers net j t = refl
+
+pub undo-numbers : (j : Journal) (k : Key) → numbers (undoChecks j k) ≡ 19 ∷ 20 ∷ []
+undo-numbers j k = refl
+
+-- After M2, firing 5 meets 13 and 14; the earlier is answered.
+abbrev afterM2 : Journal
+afterM2 = play netB (fireOf 0 ∷ fireOf 1 ∷ []) (begin netB)
+
+pub two-hold : numbers (keep (λ (c : Check). c .holds) (checks netB afterM2 (fireOf 5))) ≡ 13 ∷ 14 ∷ []
+two-hold = refl
+
+pub earlier-answered : act netB afterM2 (fireOf 5) .answer ≡ refused 13
+earlier-answered = refl

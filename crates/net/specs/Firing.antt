@@ -1,0 +1,84 @@
+-- Firing a transition and taking it back, on markings (01, firing and taking back; refusals 13 to 16).
+-- Definitions only. A set of bases is a list of flags, one for each base.
+use mathlib.Core.Path.{_≡_}
+use mathlib.Core.Bool.{Bool, true, false, not, _&&_}
+use mathlib.Core.List.{List, [], _∷_}
+use Prim.Native.Nat.{ℕ, _<_}
+use lib.Dec.{eqb}
+use lib.ListN.{getD, length}
+use Rattle.net.specs.Tests.{pick, any, keep, table}
+use Rattle.net.specs.Sorted.{puts}
+use Rattle.net.specs.Net.{Arcs, Marking, Net, sameBond, lessBond, hasBond, place, arcsOf}
+use Rattle.net.specs.Connection.{connected}
+use Rattle.net.specs.declared.Bond.{Bond}
+use Rattle.net.specs.declared.Entry.{Entry}
+use Rattle.net.specs.declared.Transition.{Transition}
+
+-- the base p is in the set
+abbrev pub inSet : List Bool → ℕ → Bool
+inSet m p = getD m p false
+
+-- The moved bases: the entries' bases and every base connected to one of them, just before the firing.
+abbrev pub moves : List Bond → List Entry → ℕ → Bool
+moves bs es p = any (λ (e : Entry). connected bs (e .base) p) es
+
+abbrev pub moved : Net → Arcs → Marking → List Bool
+moved net t s = table (net .bases) (moves (s .bonds) (t .entries))
+
+-- The bonds by which refusal 16 and the out-places see what is connected: those just before the firing.
+abbrev pub bondsSeen : Arcs → List Bond → List Bond
+bondsSeen t bs = bs
+
+-- Refusal 13: an entry's base is not at its in-place.
+abbrev pub misplaced : Arcs → Marking → Bool
+misplaced t s = any (λ (e : Entry). not (eqb (place s (e .base)) (e .from))) (t .entries)
+
+-- Refusal 14: an in-bond is absent.
+abbrev pub bondAbsent : Arcs → Marking → Bool
+bondAbsent t s = any (λ (b : Bond). not (hasBond b (s .bonds))) (t .inBonds)
+
+-- Refusal 15: an out-bond that is no in-bond is present already.
+abbrev pub bondPresent : Arcs → Marking → Bool
+bondPresent t s = any (λ (b : Bond). not (hasBond b (t .inBonds)) && hasBond b (s .bonds)) (t .outBonds)
+
+-- Refusal 16: two entries with different out-places have connected bases.
+abbrev pub tornApart : Arcs → Marking → Bool
+tornApart t s = any
+    (λ (e : Entry). any (λ (d : Entry). connected (bondsSeen t (s .bonds)) (e .base) (d .base) && not (eqb (e .to) (d .to))) (t .entries))
+    (t .entries)
+
+-- Where p goes: the place on `side` of an entry to which it is connected; its old place where there is none.
+abbrev pub sent : (Entry → ℕ) → List Bond → List Entry → ℕ → ℕ → ℕ
+sent side bs [] p old = old
+sent side bs (e ∷ es) p old = pick (connected bs (e .base) p) (side e) (sent side bs es p old)
+
+-- Firing: each moved base goes to the out-place of the entries to which it is connected; the out-bonds are added.
+abbrev pub fire : Net → Arcs → Marking → Marking
+fire net t s = record {
+  places = table (net .bases) (λ p. sent (λ (e : Entry). e .to) (bondsSeen t (s .bonds)) (t .entries) p (place s p));
+  bonds = puts sameBond lessBond (t .outBonds) (s .bonds);
+}
+
+-- An out-bond that is no in-bond: what the firing made, and taking back removes.
+abbrev pub newBond : Arcs → Bond → Bool
+newBond t b = hasBond b (t .outBonds) && not (hasBond b (t .inBonds))
+
+-- Taking back the firing that moved m: its new bonds are removed, and then each base of m goes to the in-place of the
+-- entries to which it is connected by the bonds that are left.
+abbrev pub undo : Net → Arcs → List Bool → Marking → Marking
+undo net t m s =
+    let bs = keep (λ (b : Bond). not (newBond t b)) (s .bonds) in
+    record {
+      places = table (net .bases) (λ p. pick (inSet m p) (sent (λ (e : Entry). e .from) bs (t .entries) p (place s p)) (place s p));
+      bonds = bs;
+    }
+
+-- The transition t, fired in s, is accepted (it is on the sheet, and none of 13 to 16 holds), moves m and gives z.
+pub record Fires (net : Net) (s : Marking) (t : Transition) (m : List Bool) (z : Marking) : Type 0 where
+  pub listed : t .0 < length (net .transitions)
+  pub placed : misplaced (arcsOf net t) s ≡ false
+  pub present : bondAbsent (arcsOf net t) s ≡ false
+  pub absent : bondPresent (arcsOf net t) s ≡ false
+  pub together : tornApart (arcsOf net t) s ≡ false
+  pub moves-m : m ≡ moved net (arcsOf net t) s
+  pub gives : z ≡ fire net (arcsOf net t) s

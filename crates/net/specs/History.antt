@@ -1,0 +1,37 @@
+-- Sound histories (01, commands, record, tally: when a record is sound), as a test on a journal.
+-- Definitions only. The form of a record's fields is the crate session's.
+use mathlib.Core.Bool.{Bool, _&&_, Bool·beq}
+use mathlib.Core.List.{List, [], _∷_}
+use Prim.Native.Nat.{ℕ}
+use lib.Dec.{eqb, ltb, leb}
+use lib.ListN.{length}
+use Rattle.net.specs.Limits.{maxLive, maxKey}
+use Rattle.net.specs.Tests.{all, sameList}
+use Rattle.net.specs.Sorted.{ascends}
+use Rattle.net.specs.Net.{Marking, Net, sameBond, arcsOf}
+use Rattle.net.specs.Firing.{moved, fire}
+use Rattle.net.specs.Checks.{clear}
+use Rattle.net.specs.Journal.{LiveLine, Journal, enableChecks}
+
+abbrev pub sameMarking : Marking → Marking → Bool
+sameMarking s z = sameList eqb (s .places) (z .places) && sameList sameBond (s .bonds) (z .bonds)
+
+-- The lines, run forward alone from s in this order, are each accepted with the moved bases on the line, and end in z.
+-- 17 and 18 play no part: at most 256 lines are run, with keys of their own from 1 up.
+abbrev pub replays : Net → Marking → List LiveLine → Marking → Bool
+replays net s [] z = sameMarking s z
+replays net s (l ∷ ls) z =
+    clear (enableChecks net s (l .transition))
+    && (sameList Bool·beq (l .moved) (moved net (arcsOf net (l .transition)) s)
+    && replays net (fire net (arcsOf net (l .transition)) s) ls z)
+
+-- Keys strictly ascend, from 1 to 65,535; at most 256 firings are live.
+abbrev pub keysInOrder : List LiveLine → Bool
+keysInOrder ls = ascends (λ (l k : LiveLine). ltb (l .key .0) (k .key .0)) ls
+    && all (λ (l : LiveLine). ltb 0 (l .key .0) && leb (l .key .0) maxKey) ls
+
+abbrev pub linesInForm : List LiveLine → Bool
+linesInForm ls = leb (length ls) maxLive && keysInOrder ls
+
+abbrev pub sound : Net → Journal → Bool
+sound net j = linesInForm (j .lines) && replays net (net .start) (j .lines) (j .marking)
