@@ -8,4 +8,9 @@ pub mod Moves
 pub mod Fire
 pub mod Undo
 pub mod Laws
+pub mod Rules
+pub mod Checks
+pub mod Keys
+pub mod Journal
+pub mod Demand3
 pub mod Cases

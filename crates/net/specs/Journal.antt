@@ -134,8 +134,12 @@ transitionNamed c = transition (numberOf c)
 abbrev pub keyNamed : Journal → List ℕ → Key
 keyNamed j c = key (pick (eqb (kindOf c) 2) (highestLive (j .lines)) (numberOf c))
 
+-- 12 to 18 are kind 1's alone, 19 and 20 those of kinds 2 and 3.
+abbrev pub kindChecks : Net → Journal → List ℕ → List Check
+kindChecks net j c = pick (eqb (kindOf c) 1) (fireChecks net j (transitionNamed c)) (undoChecks j (keyNamed j c))
+
 abbrev pub checks : Net → Journal → List ℕ → List Check
-checks net j c = readChecks c ++ pick (eqb (kindOf c) 1) (fireChecks net j (transitionNamed c)) (undoChecks j (keyNamed j c))
+checks net j c = readChecks c ++ kindChecks net j c
 
 -- ---- Commands
 

@@ -1,0 +1,92 @@
+-- Demand 3 on the journal: the lines left after any list of commands run forward to the session's marking, in their own
+-- order and in every reordering. Assumes that the net meets the sheet's rules.
+use mathlib.Core.Path.{_≡_, refl, sym, _∙_, ap}
+use mathlib.Core.Logic.{inl, inr}
+use mathlib.Core.Bool.{Bool, true, false, not, _&&_}
+use mathlib.Core.List.{List, [], _∷_, _++_, append-assoc, append-nil}
+use Prim.Native.Nat.{ℕ, suc, _<_, _≤_, _+_, _*_, _/_, _%_}
+use native.Mathlib.Omega.{arith}
+use lib.ListN.{length, length-append}
+use borrow.Author.Tests.{lt-leb}
+use Rattle.causal.specs.Reorderings.{Reordering}
+use Rattle.causal.specs.Runs.{Run}
+use Rattle.causal.proofs.Reorderings.{reordering-swapped, swapped-length, reordering-same}
+use Rattle.causal.proofs.Runs.{swapped-run}
+use Rattle.net.specs.Limits.{maxLive, maxKey}
+use Rattle.net.specs.Tests.{pick}
+use Rattle.net.specs.Net.{Marking, Net, arcsOf}
+use Rattle.net.specs.Rules.{netRule}
+use Rattle.net.specs.Marking.{Good}
+use Rattle.net.specs.Firing.{inSet, fire, undo, Fires}
+use Rattle.net.specs.Checks.{clear, first}
+use Rattle.net.specs.Journal.{LiveLine, Journal, Reply, fired, transition, key, highestLive, lastGiven, fireChecks, newLine, fireReply, refuse, begin, act, play, answers}
+use Rattle.net.specs.Claims.{fireCommand, fireCommands, numbered, allFired, Forward, Demand3}
+use Rattle.net.specs.declared.Transition.{Transition}
+use Rattle.net.proofs.Moves.{view}
+use Rattle.net.proofs.Laws.{laws}
+use Rattle.net.proofs.Rules.{fits, start-good}
+use Rattle.net.proofs.Keys.{highest-snoc, up-distinct}
+use Rattle.net.proofs.Journal.{Held, played}
+
+-- ---- a command of kind 1
+
+number-bytes : (n : ℕ) → n % 256 + 256 * (n / 256) ≡ n
+number-bytes n = omega arith
+
+module _ (net : Net) (j : Journal) where
+  fires-number : (n : ℕ) → act net j (fireCommand n) ≡ pick (clear (fireChecks net j (transition n))) (fireReply net j (transition n)) (refuse j (first (fireChecks net j (transition n))))
+  fires-number n = ap
+      (λ (k : ℕ). pick (clear (fireChecks net j (transition k))) (fireReply net j (transition k)) (refuse j (first (fireChecks net j (transition k)))))
+      (number-bytes n)
+
+  -- where none of 12 to 18 holds, the firing is done
+  pub act-fires : (t : Transition) → clear (fireChecks net j t) ≡ true → act net j (fireCommand (t .0)) ≡ fireReply net j t
+  act-fires t e = fires-number (t .0) ∙ ap (λ (b : Bool). pick b (fireReply net j t) (refuse j (first (fireChecks net j t)))) e
+
+module _ (net : Net) where
+  fires-clear : (j : Journal) (t : Transition) (m : List Bool) (z : Marking) → Fires net (j .marking) t m z → length (j .lines) < maxLive → lastGiven j < maxKey
+      → clear (fireChecks net j t) ≡ true
+  fires-clear j t m z F few low =
+      rw (lt-leb (length (net .transitions)) (t .0) (F .listed), F .placed, F .present, F .absent, F .together, lt-leb maxLive (length (j .lines)) few, lt-leb maxKey (lastGiven j) low)
+
+  -- a run of lines, given as commands after those of acc
+  run-all : (ls acc : List LiveLine) (s z : Marking) (k : ℕ) → Run (Fires net) s ls z → highestLive acc ≡ k
+      → length acc + length ls ≤ maxLive → k + length ls ≤ maxKey
+      → (play net (fireCommands ls) (record { marking = s; lines = acc }) ≡ record { marking = z; lines = acc ++ numbered k ls })
+      × (answers net (fireCommands ls) (record { marking = s; lines = acc }) ≡ allFired k ls)
+  run-all [] acc s z k r e few low = ((λ i. record { marking = r i; lines = sym (append-nil acc) i }), refl)
+  run-all (l ∷ ls) acc s z k r e few low =
+      let j : Journal = record { marking = s; lines = acc } in
+      let new : LiveLine = record { transition = l .transition; key = key (suc k); moved = l .moved } in
+      let F : Fires net s (l .transition) (l .moved) (r .0) = r .1 in
+      let meant : Reply = record { journal = record { marking = r .0; lines = acc ++ (new ∷ []) }; answer = fired (key (suc k)) } in
+      let so : fireReply net j (l .transition) ≡ meant = λ i. record {
+        journal = record { marking = sym (F .gives) i; lines = acc ++ (record { transition = l .transition; key = key (suc (e i)); moved = sym (F .moves-m) i } ∷ []) };
+        answer = fired (key (suc (e i)));
+      } in
+      let reply : act net j (fireCommand (l .transition .0)) ≡ meant =
+      act-fires net j (l .transition) (fires-clear j (l .transition) (l .moved) (r .0) F (omega arith) (omega arith)) ∙ so in
+      let (journal, ans) = run-all ls (acc ++ (new ∷ [])) (r .0) z (suc k) (r .2) (highest-snoc acc new (omega arith)) (rw length-append (omega arith)) (omega arith) in (
+        ap (λ (x : Reply). play net (fireCommands ls) (x .journal)) reply ∙ journal ∙ (λ i. record { marking = z; lines = append-assoc acc (new ∷ []) (numbered (suc k) ls) i }),
+        ap (λ (x : Reply). x .answer ∷ answers net (fireCommands ls) (x .journal)) reply ∙ (λ i. fired (key (suc k)) ∷ ans i),
+      )
+
+module _ (net : Net) (ok : netRule net ≡ true) where
+  -- what holds of a journal's lines runs forward, and so does every reordering of them
+  pub held-forward : (j : Journal) → Held net j → (ms : List LiveLine) → Reordering inSet (j .lines) ms → Forward net ms (j .marking)
+  held-forward j H ms R =
+      let turn = reordering-swapped inSet ms (j .lines) (up-distinct (j .lines) (H .up)) R in
+      let run = swapped-run inSet view (Good net) (Fires net) (λ s t m. undo net (arcsOf net t) m s) (laws net (fits net ok)) turn (net .start) (j .marking) (start-good net ok) (H .run) in
+      let size : length (j .lines) ≡ length ms = swapped-length inSet turn in
+      let few = H .few in
+      let (journal, ans) = run-all net ms [] (net .start) (j .marking) 0 run refl (omega arith) (omega arith) in
+      record { journal = journal; answer = ans }
+
+  pub demand3 : (cs : List (List ℕ)) → Demand3 net cs
+  demand3 cs =
+      let j : Journal = play net cs (begin net) in
+      let H : Held net j = played net ok cs in
+      record {
+        inOrder = held-forward j H (j .lines) (reordering-same inSet (j .lines) (up-distinct (j .lines) (H .up)));
+        reordered = held-forward j H;
+      }
