@@ -13,4 +13,6 @@ pub mod Checks
 pub mod Keys
 pub mod Journal
 pub mod Demand3
+pub mod History
+pub mod Totals
 pub mod Cases
