@@ -15,4 +15,6 @@ pub mod Journal
 pub mod Demand3
 pub mod History
 pub mod Totals
+pub mod Pairs
 pub mod Cases
+pub mod Claims

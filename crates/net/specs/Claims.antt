@@ -75,3 +75,12 @@ StaysSound net = (j : Journal) (c : List ℕ) → sound net j ≡ true → sound
 -- 256 lines are live (`linesInForm`).
 abbrev pub JournalSound : Net → Type 0
 JournalSound net = (cs : List (List ℕ)) → sound net (play net cs (begin net)) ≡ true
+
+-- ---- All of it
+
+pub record Claimed (net : Net) : Type 0 where
+  pub demand3 : (cs : List (List ℕ)) → Demand3 net cs
+  pub totals : (cs : List (List ℕ)) → Totals net (play net cs (begin net))
+  pub fewBonds : (cs : List (List ℕ)) → FewBonds net (play net cs (begin net) .marking)
+  pub journalSound : JournalSound net
+  pub staysSound : StaysSound net
