@@ -76,7 +76,7 @@ module _ (net : Net) (ok : netRule net ≡ true) where
   pub held-forward : (j : Journal) → Held net j → (ms : List LiveLine) → Reordering inSet (j .lines) ms → Forward net ms (j .marking)
   held-forward j H ms R =
       let turn = reordering-swapped inSet ms (j .lines) (up-distinct (j .lines) (H .up)) R in
-      let run = swapped-run inSet view (Good net) (Fires net) (λ s t m. undo net (arcsOf net t) m s) (laws net (fits net ok)) turn (net .start) (j .marking) (start-good net ok) (H .run) in
+      let run = swapped-run inSet view (Good net) (Fires net) (λ s t m. undo (net .bases) (arcsOf net t) m s) (laws net (fits net ok)) turn (net .start) (j .marking) (start-good net ok) (H .run) in
       let size : length (j .lines) ≡ length ms = swapped-length inSet turn in
       let few = H .few in
       let (journal, ans) = run-all net ms [] (net .start) (j .marking) 0 run refl (omega arith) (omega arith) in

@@ -25,12 +25,12 @@ use Rattle.net.proofs.Connection.{leads-label, bond-leads, connected-al
 use Rattle.net.proofs.Moves.{sent-cong, sent-none, sent-is, sent-below, Fit, view, see, seen-place, seen-first, seen-second, seen-bonded, entry-moves, closed, moves-range, joins-moves, out-moves}
 
 module _ (net : Net) (s : Marking) (G : Good net s) (t : Arcs) (F : Fit net t) where
-  pub place-fire : (p : ℕ) → place (fire net t s) p ≡ sent (λ (e : Entry). e .to) (s .bonds) (t .entries) p (place s p)
+  pub place-fire : (p : ℕ) → place (fire (net .bases) t s) p ≡ sent (λ (e : Entry). e .to) (s .bonds) (t .entries) p (place s p)
   place-fire p = getD-table-all (net .bases) (λ k. sent (λ (e : Entry). e .to) (s .bonds) (t .entries) k (place s k)) 0 p (λ h.
       sent-none (λ (e : Entry). e .to) (s .bonds) (t .entries) p (place s p) (fails (moves (s .bonds) (t .entries) p) (λ k. let l = moves-range net s G t F p k in omega arith))
       ∙ List·getD-eq-default (s .places) 0 (rw (G .size) h))
 
-  pub has-fire : (b : Bond) → hasBond b (fire net t s .bonds) ≡ (hasBond b (t .outBonds) || hasBond b (s .bonds))
+  pub has-fire : (b : Bond) → hasBond b (fire (net .bases) t s .bonds) ≡ (hasBond b (t .outBonds) || hasBond b (s .bonds))
   has-fire b = has-puts sameBond lessBond bond-order b (t .outBonds) (s .bonds)
 
 module _ (net : Net) (s : Marking) (G : Good net s) (t : Arcs) (F : Fit net t) (way : tornApart t s ≡ false) where
@@ -42,14 +42,14 @@ module _ (net : Net) (s : Marking) (G : Good net s) (t : Arcs) (F : Fit net t) (
       eqb-true (e .to) (d .to) (not-false (eqb (e .to) (d .to)) (rw c at r))
 
   -- an entry's base goes to the entry's out-place
-  entry-goes : (d : Entry) → Mem d (t .entries) → place (fire net t s) (d .base) ≡ d .to
+  entry-goes : (d : Entry) → Mem d (t .entries) → place (fire (net .bases) t s) (d .base) ≡ d .to
   entry-goes d h = place-fire net s G t F (d .base)
       ∙ sent-is (λ (e : Entry). e .to) (s .bonds) (t .entries) (d .base) (place s (d .base)) (d .to) (entry-moves net s G t F d h) (λ e k c. one-way e d k h c)
 
-  fire-share : (b : Bond) → (hasBond b (t .outBonds) ≡ true) ⊎ (hasBond b (s .bonds) ≡ true) → place (fire net t s) (b .lo) ≡ place (fire net t s) (b .hi)
+  fire-share : (b : Bond) → (hasBond b (t .outBonds) ≡ true) ⊎ (hasBond b (s .bonds) ≡ true) → place (fire (net .bases) t s) (b .lo) ≡ place (fire (net .bases) t s) (b .hi)
   fire-share b (inl h) =
       let (e, d, J, same) = F .outs b h in
-      ap (place (fire net t s)) (sym (J .lo)) ∙ entry-goes e (J .first) ∙ same ∙ sym (entry-goes d (J .second)) ∙ ap (place (fire net t s)) (J .hi)
+      ap (place (fire (net .bases) t s)) (sym (J .lo)) ∙ entry-goes e (J .first) ∙ same ∙ sym (entry-goes d (J .second)) ∙ ap (place (fire (net .bases) t s)) (J .hi)
   fire-share b (inr h) = place-fire net s G t F (b .lo)
       ∙ sent-cong (λ (e : Entry). e .to) (s .bonds) (s .bonds) (t .entries) (b .lo) (b .hi) (place s (b .lo)) (place s (b .hi))
       (λ e _. ap (λ (r : ℕ). eqb (label (s .bonds) (e .base)) r) (leads-label {bs = s .bonds} {p = b .lo} {q = b .hi} (bond-leads (s .bonds) b h))) (G .share b h)
@@ -59,10 +59,10 @@ module _ (net : Net) (s : Marking) (G : Good net s) (t : Arcs) (F : Fit net t) (
   fire-range b (inl h) = let (u, v) = out-moves net s G t F b h in (F .low b h, moves-range net s G t F (b .hi) v)
   fire-range b (inr h) = G .range b h
 
-  fire-within : (p : ℕ) → p < net .bases → place (fire net t s) p < net .places
+  fire-within : (p : ℕ) → p < net .bases → place (fire (net .bases) t s) p < net .places
   fire-within p h = rw (place-fire net s G t F p) (sent-below (λ (e : Entry). e .to) (s .bonds) (t .entries) p (place s p) (net .places) (F .to) (G .within p h))
 
-  pub fire-good : Good net (fire net t s)
+  pub fire-good : Good net (fire (net .bases) t s)
   fire-good = record {
     size = length-table (net .bases) (λ p. sent (λ (e : Entry). e .to) (s .bonds) (t .entries) p (place s p));
     within = fire-within;
@@ -82,7 +82,7 @@ module _ (net : Net) (s : Marking) (G : Good net s) (z : Marking) (t : Arcs) (F 
   moves-like : (p : ℕ) → moves (s .bonds) (t .entries) p ≡ moves (z .bonds) (t .entries) p
   moves-like p = any-cong (λ (e : Entry). connected (s .bonds) (e .base) p) (λ (e : Entry). connected (z .bonds) (e .base) p) (t .entries) (λ e h. connected-like e h p)
 
-  pub moved-like : moved net t s ≡ moved net t z
+  pub moved-like : moved (net .bases) t s ≡ moved (net .bases) t z
   moved-like = ap (table (net .bases)) (fun-ext moves-like)
 
   -- a bond of an entry's base
@@ -109,10 +109,10 @@ module _ (net : Net) (s : Marking) (G : Good net s) (z : Marking) (t : Arcs) (F 
       torn : Marking → Entry → Bool
       torn w e = any (λ (d : Entry). connected (w .bonds) (e .base) (d .base) && not (eqb (e .to) (d .to))) (t .entries)
 
-  pub fire-like : Good net z → (p : ℕ) → moves (s .bonds) (t .entries) p ≡ true → view (fire net t s) p ≡ view (fire net t z) p
+  pub fire-like : Good net z → (p : ℕ) → moves (s .bonds) (t .entries) p ≡ true → view (fire (net .bases) t s) p ≡ view (fire (net .bases) t z) p
   fire-like G′ p h =
       let v : view s p ≡ view z p = like p h in
-      see (fire net t s) (fire net t z) p
+      see (fire (net .bases) t s) (fire (net .bases) t z) p
       (place-fire net s G t F p ∙ sent-cong (λ (e : Entry). e .to) (s .bonds) (z .bonds) (t .entries) p p (place s p) (place z p) (λ e k. connected-like e k p) (seen-place s z p v) ∙ sym (place-fire net z G′ t F p))
       (λ q. has-fire net s G t F (bond p q) ∙ rw (seen-first s z p v q) (sym (has-fire net z G′ t F (bond p q))))
       (λ q. has-fire net s G t F (bond q p) ∙ rw (seen-second s z p v q) (sym (has-fire net z G′ t F (bond q p))))

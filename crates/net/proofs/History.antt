@@ -44,18 +44,18 @@ module _ (net : Net) where
   replays-run (l ∷ ls) s z h =
       let t = arcsOf net (l .transition) in
       let F = enabled-fires net s (l .transition) (and-l (clear (enableChecks net s (l .transition))) _ h) in
-      let rest : (sameList Bool·beq (l .moved) (moved net t s) && replays net (fire net t s) ls z) ≡ true = and-r (clear (enableChecks net s (l .transition))) _ h in (
-        fire net t s,
+      let rest : (sameList Bool·beq (l .moved) (moved (net .bases) t s) && replays net (fire (net .bases) t s) ls z) ≡ true = and-r (clear (enableChecks net s (l .transition))) _ h in (
+        fire (net .bases) t s,
         record {
           listed = F .listed;
           placed = F .placed;
           present = F .present;
           absent = F .absent;
           together = F .together;
-          moves-m = same-e Bool·beq beq-e (l .moved) (moved net t s) (and-l _ _ rest);
+          moves-m = same-e Bool·beq beq-e (l .moved) (moved (net .bases) t s) (and-l _ _ rest);
           gives = refl;
         },
-        replays-run ls (fire net t s) z (and-r (sameList Bool·beq (l .moved) (moved net t s)) _ rest),
+        replays-run ls (fire (net .bases) t s) z (and-r (sameList Bool·beq (l .moved) (moved (net .bases) t s)) _ rest),
       )
 
   pub run-replays : (ls : List LiveLine) (s z : Marking) → Run (Fires net) s ls z → replays net s ls z ≡ true
@@ -69,7 +69,7 @@ module _ (net : Net) where
         F .absent,
         F .together,
         F .moves-m,
-        same-i Bool·beq beq-i (moved net (arcsOf net (l .transition)) s),
+        same-i Bool·beq beq-i (moved (net .bases) (arcsOf net (l .transition)) s),
         ← F .gives,
       ) (run-replays ls (r .0) z (r .2))
 

@@ -34,7 +34,7 @@ use Rattle.net.proofs.Keys.{Up, highest-snoc, highest-skip, length-skip
 
 -- where none of 12 to 16 holds, the transition fires
 pub enabled-fires : (net : Net) (s : Marking) (t : Transition) → clear (enableChecks net s t) ≡ true
-    → Fires net s t (moved net (arcsOf net t) s) (fire net (arcsOf net t) s)
+    → Fires net s t (moved (net .bases) (arcsOf net t) s) (fire (net .bases) (arcsOf net t) s)
 enabled-fires net s t e =
     let off = clear-off (enableChecks net s t) e in
     record {
@@ -64,7 +64,7 @@ module _ (net : Net) (ok : netRule net ≡ true) where
   fire-held : (j : Journal) (t : Transition) → clear (fireChecks net j t) ≡ true → Held net j → Held net (fireReply net j t .journal)
   fire-held j t e H =
       let both : (clear (enableChecks net (j .marking) t) && clear (spaceChecks j)) ≡ true = sym (clear-append (enableChecks net (j .marking) t) (spaceChecks j)) ∙ e in
-      let z : Marking = fire net (arcsOf net t) (j .marking) in
+      let z : Marking = fire (net .bases) (arcsOf net t) (j .marking) in
       let l : LiveLine = newLine net j t in
       let F = enabled-fires net (j .marking) t (and-l _ _ both) in
       let few : length (j .lines) < maxLive = leb-false maxLive (length (j .lines)) (clear-off (fireChecks net j t) e 17) in
@@ -88,7 +88,7 @@ module _ (net : Net) (ok : netRule net ≡ true) where
       gone (lineOf k (j .lines)) xs ys q r (clear-off (undoChecks j k) e 20)
     where
       gone : (l : LiveLine) (xs ys : List LiveLine) → j .lines ≡ xs ++ l ∷ ys → l .key .0 ≡ k .0 → builtOn (j .lines) l ≡ false
-          → Held net (record { marking = undo net (arcsOf net (l .transition)) (l .moved) (j .marking); lines = without k (j .lines) })
+          → Held net (record { marking = undo (net .bases) (arcsOf net (l .transition)) (l .moved) (j .marking); lines = without k (j .lines) })
       gone l xs ys q r d =
           let u : Up (xs ++ l ∷ ys) = rw q at (H .up) in
           let same : without k (j .lines) ≡ xs ++ ys = rw q (without-split k l xs ys r u) in
@@ -97,7 +97,7 @@ module _ (net : Net) (ok : netRule net ≡ true) where
           let lk = length-skip l xs ys in
           let hk = highest-skip l xs ys in
           rw same (record {
-            run = take-back inSet view (Good net) (Fires net) (λ s t m. undo net (arcsOf net t) m s) (laws net (fits net ok)) xs ys l (net .start) (j .marking)
+            run = take-back inSet view (Good net) (Fires net) (λ s t m. undo (net .bases) (arcsOf net t) m s) (laws net (fits net ok)) xs ys l (net .start) (j .marking)
                 (start-good net ok) (rw q at (H .run)) (independent-later l ys (up-after l xs ys u) (builtOn-after l xs ys (rw q at d)));
             up = up-skip l xs ys u;
             few = omega arith;

@@ -35,7 +35,7 @@ module _ (net : Net) (fits : (t : Transition) → t .0 < length (net .transition
       let t : Arcs = arcsOf net a in
       let F : Fit net t = fits a (f .listed) in
       let off : moves (s .bonds) (t .entries) p ≡ false = sym (mem-moved net s g t F p) ∙ rw (← f .moves-m) h in
-      rw (f .gives) (see s (fire net t s) p
+      rw (f .gives) (see s (fire (net .bases) t s) p
       (sym (place-fire net s g t F p ∙ sent-none (λ (e : Entry). e .to) (s .bonds) (t .entries) p (place s p) off))
       (λ q. sym (has-fire net s g t F (bond p q) ∙ rw (fails (hasBond (bond p q) (t .outBonds)) (λ k. both (moves (s .bonds) (t .entries) p) (out-moves net s g t F (bond p q) k .0) off))))
       (λ q. sym (has-fire net s g t F (bond q p) ∙ rw (fails (hasBond (bond q p) (t .outBonds)) (λ k. both (moves (s .bonds) (t .entries) p) (out-moves net s g t F (bond q p) k .1) off)))))
@@ -47,7 +47,7 @@ module _ (net : Net) (fits : (t : Transition) → t .0 < length (net .transition
       let F : Fit net t = fits a (f .listed) in
       let on : (p : ℕ) → inSet m p ≡ moves (s .bonds) (t .entries) p = λ p. rw (f .moves-m) (mem-moved net s g t F p) in
       let like′ : (p : ℕ) → moves (s .bonds) (t .entries) p ≡ true → view s p ≡ view s′ p = λ p h. like p (on p ∙ h) in (
-        fire net t s′,
+        fire (net .bases) t s′,
         record {
           listed = f .listed;
           placed = sym (misplaced-like net s g s′ t F like′) ∙ f .placed;
@@ -61,19 +61,19 @@ module _ (net : Net) (fits : (t : Transition) → t .0 < length (net .transition
       )
 
   law-back : {s z z′ : Marking} {a : Transition} {m : List Bool} → Good net s → Good net z′ → Fires net s a m z → ((p : ℕ) → inSet m p ≡ true → view z p ≡ view z′ p)
-      → Good net (undo net (arcsOf net a) m z′) × ((p : ℕ) → inSet m p ≡ true → view s p ≡ view (undo net (arcsOf net a) m z′) p)
-      × ((p : ℕ) → inSet m p ≡ false → view z′ p ≡ view (undo net (arcsOf net a) m z′) p)
+      → Good net (undo (net .bases) (arcsOf net a) m z′) × ((p : ℕ) → inSet m p ≡ true → view s p ≡ view (undo (net .bases) (arcsOf net a) m z′) p)
+      × ((p : ℕ) → inSet m p ≡ false → view z′ p ≡ view (undo (net .bases) (arcsOf net a) m z′) p)
   law-back {s} {z} {z′} {a} {m} g g′ f like =
       let t : Arcs = arcsOf net a in
       let F : Fit net t = fits a (f .listed) in
       let on : (p : ℕ) → inSet m p ≡ moves (s .bonds) (t .entries) p = λ p. rw (f .moves-m) (mem-moved net s g t F p) in
-      let like′ : (p : ℕ) → moves (s .bonds) (t .entries) p ≡ true → view (fire net t s) p ≡ view z′ p = λ p h. rw (f .gives) at (like p (on p ∙ h)) in
-      subst⁻¹ (λ (k : List Bool). Good net (undo net t k z′) × ((p : ℕ) → inSet k p ≡ true → view s p ≡ view (undo net t k z′) p) × ((p : ℕ) → inSet k p ≡ false → view z′ p ≡ view (undo net t k z′) p))
+      let like′ : (p : ℕ) → moves (s .bonds) (t .entries) p ≡ true → view (fire (net .bases) t s) p ≡ view z′ p = λ p h. rw (f .gives) at (like p (on p ∙ h)) in
+      subst⁻¹ (λ (k : List Bool). Good net (undo (net .bases) t k z′) × ((p : ℕ) → inSet k p ≡ true → view s p ≡ view (undo (net .bases) t k z′) p) × ((p : ℕ) → inSet k p ≡ false → view z′ p ≡ view (undo (net .bases) t k z′) p))
       (f .moves-m) (
         undo-good net s g t F (f .placed) (f .present) (f .absent) z′ g′ like′,
         (λ p h. undo-on net s g t F (f .placed) (f .present) (f .absent) z′ g′ like′ p (sym (mem-moved net s g t F p) ∙ h)),
         λ p h. undo-off net s g t F (f .placed) (f .present) (f .absent) z′ g′ like′ p (sym (mem-moved net s g t F p) ∙ h),
       )
 
-  pub laws : Laws inSet view (Good net) (Fires net) (λ s a m. undo net (arcsOf net a) m s)
+  pub laws : Laws inSet view (Good net) (Fires net) (λ s a m. undo (net .bases) (arcsOf net a) m s)
   laws = record { ext = law-ext; good = law-good; frame = law-frame; local = law-local; back = law-back }

@@ -117,7 +117,7 @@ module _ (net : Net) (s : Marking) (G : Good net s) (t : Arcs) (F : Fit net t) w
       let (e, k, c) = any-e (λ (d : Entry). connected (s .bonds) (d .base) p) (t .entries) h in
       leads-range (connected-leads (s .bonds) (e .base) p c) (F .bases e k)
 
-  pub mem-moved : (p : ℕ) → inSet (moved net t s) p ≡ moves (s .bonds) (t .entries) p
+  pub mem-moved : (p : ℕ) → inSet (moved (net .bases) t s) p ≡ moves (s .bonds) (t .entries) p
   mem-moved p = getD-table-all (net .bases) (moves (s .bonds) (t .entries)) false p (λ h. fails (moves (s .bonds) (t .entries) p) (λ k. let l = moves-range p k in omega arith))
 
   -- a base of a step's bond is moved

@@ -82,7 +82,7 @@ module _ (net : Net) (ok : netRule net ≡ true) where
 
   pub held-totals : (j : Journal) → Held net j → Totals net j
   held-totals j H = record {
-    good = run-good inSet view (Good net) (Fires net) (λ s t m. undo net (arcsOf net t) m s) (laws net (fits net ok)) (j .lines) (net .start) (j .marking) (start-good net ok) (H .run);
+    good = run-good inSet view (Good net) (Fires net) (λ s t m. undo (net .bases) (arcsOf net t) m s) (laws net (fits net ok)) (j .lines) (net .start) (j .marking) (start-good net ok) (H .run);
     bonds = run-count (j .lines) (net .start) (j .marking) (start-good net ok) (H .run);
   }
 

@@ -33,14 +33,14 @@ undo-test false i false f g = refl
 
 -- s is fired, and y looks like the result on the moved bases
 module _ (net : Net) (s : Marking) (G : Good net s) (t : Arcs) (F : Fit net t) (r13 : misplaced t s ≡ false) (r14 : bondAbsent t s ≡ false) (r15 : bondPresent t s ≡ false)
-    (y : Marking) (H : Good net y) (like : (p : ℕ) → moves (s .bonds) (t .entries) p ≡ true → view (fire net t s) p ≡ view y p) where
+    (y : Marking) (H : Good net y) (like : (p : ℕ) → moves (s .bonds) (t .entries) p ≡ true → view (fire (net .bases) t s) p ≡ view y p) where
   abbrev u : Marking
-  u = undo net t (moved net t s) y
+  u = undo (net .bases) t (moved (net .bases) t s) y
 
   has-undo : (b : Bond) → hasBond b (u .bonds) ≡ (hasBond b (y .bonds) && not (newBond t b))
   has-undo b = has-keep sameBond lessBond bond-order (λ (c : Bond). not (newBond t c)) b (y .bonds)
 
-  has-on : (b : Bond) → hasBond b (fire net t s .bonds) ≡ hasBond b (y .bonds) → hasBond b (s .bonds) ≡ hasBond b (u .bonds)
+  has-on : (b : Bond) → hasBond b (fire (net .bases) t s .bonds) ≡ hasBond b (y .bonds) → hasBond b (s .bonds) ≡ hasBond b (u .bonds)
   has-on b e = sym (has-undo b ∙ rw (← e, has-fire net s G t F b) (undo-test (hasBond b (t .outBonds)) (hasBond b (t .inBonds)) (hasBond b (s .bonds))
       (λ h. any-no (λ (c : Bond). not (hasBond c (t .inBonds)) && hasBond c (s .bonds)) (t .outBonds) r15 b (has-mem (t .outBonds) b h))
       (λ h. any-no (λ (c : Bond). not (hasBond c (s .bonds))) (t .inBonds) r14 b (has-mem (t .inBonds) b h))))
@@ -49,10 +49,10 @@ module _ (net : Net) (s : Marking) (G : Good net s) (t : Arcs) (F : Fit net t) (
   has-off b e = sym (has-undo b ∙ rw e (and-true (hasBond b (y .bonds))))
 
   first-on : (p : ℕ) → moves (s .bonds) (t .entries) p ≡ true → (q : ℕ) → hasBond (bond p q) (s .bonds) ≡ hasBond (bond p q) (u .bonds)
-  first-on p h q = has-on (bond p q) (seen-first (fire net t s) y p (like p h) q)
+  first-on p h q = has-on (bond p q) (seen-first (fire (net .bases) t s) y p (like p h) q)
 
   second-on : (p : ℕ) → moves (s .bonds) (t .entries) p ≡ true → (q : ℕ) → hasBond (bond q p) (s .bonds) ≡ hasBond (bond q p) (u .bonds)
-  second-on p h q = has-on (bond q p) (seen-second (fire net t s) y p (like p h) q)
+  second-on p h q = has-on (bond q p) (seen-second (fire (net .bases) t s) y p (like p h) q)
 
   connected-undo : (e : Entry) → Mem e (t .entries) → (q : ℕ) → connected (s .bonds) (e .base) q ≡ connected (u .bonds) (e .base) q
   connected-undo e h q = connected-alike (moves (s .bonds) (t .entries)) (s .bonds) (u .bonds) (closed net s G t F) (λ p r k. rw (first-on p k r, second-on p k r)) (e .base) q (entry-moves net s G t F e h)
@@ -63,7 +63,7 @@ module _ (net : Net) (s : Marking) (G : Good net s) (t : Arcs) (F : Fit net t) (
       ∙ leads-share net s G t F (connected-leads (s .bonds) (e .base) p c)
 
   place-undo : (p : ℕ) → place u p ≡ pick (moves (s .bonds) (t .entries) p) (sent (λ (e : Entry). e .from) (u .bonds) (t .entries) p (place y p)) (place y p)
-  place-undo p = getD-table-all (net .bases) (λ k. pick (inSet (moved net t s) k) (sent (λ (e : Entry). e .from) (u .bonds) (t .entries) k (place y k)) (place y k)) 0 p
+  place-undo p = getD-table-all (net .bases) (λ k. pick (inSet (moved (net .bases) t s) k) (sent (λ (e : Entry). e .from) (u .bonds) (t .entries) k (place y k)) (place y k)) 0 p
       (λ h. rw (mem-moved net s G t F p, fails (moves (s .bonds) (t .entries) p) (λ k. let l = moves-range net s G t F p k in omega arith)) (List·getD-eq-default (y .places) 0 (rw (H .size) h)))
       ∙ rw (mem-moved net s G t F p)
 
@@ -98,7 +98,7 @@ module _ (net : Net) (s : Marking) (G : Good net s) (t : Arcs) (F : Fit net t) (
 
   pub undo-good : Good net u
   undo-good = record {
-    size = length-table (net .bases) (λ p. pick (inSet (moved net t s) p) (sent (λ (e : Entry). e .from) (u .bonds) (t .entries) p (place y p)) (place y p));
+    size = length-table (net .bases) (λ p. pick (inSet (moved (net .bases) t s) p) (sent (λ (e : Entry). e .from) (u .bonds) (t .entries) p (place y p)) (place y p));
     within = undo-within;
     order = ascending-keep sameBond lessBond bond-order (λ (b : Bond). not (newBond t b)) (y .bonds) (H .order);
     range = λ b h. H .range b (and-l (hasBond b (y .bonds)) (not (newBond t b)) (sym (has-undo b) ∙ h));

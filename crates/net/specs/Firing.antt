@@ -1,5 +1,5 @@
 -- Firing a transition and taking it back, on markings (01, firing and taking back; refusals 13 to 16).
--- Definitions only. A set of bases is a list of flags, one for each base.
+-- Definitions only. A set of bases is a list of flags, one for each base; n is the number of bases.
 use mathlib.Core.Path.{_≡_}
 use mathlib.Core.Bool.{Bool, true, false, not, _&&_}
 use mathlib.Core.List.{List, [], _∷_}
@@ -22,8 +22,8 @@ inSet m p = getD m p false
 abbrev pub moves : List Bond → List Entry → ℕ → Bool
 moves bs es p = any (λ (e : Entry). connected bs (e .base) p) es
 
-abbrev pub moved : Net → Arcs → Marking → List Bool
-moved net t s = table (net .bases) (moves (s .bonds) (t .entries))
+abbrev pub moved : ℕ → Arcs → Marking → List Bool
+moved n t s = table n (moves (s .bonds) (t .entries))
 
 -- The bonds by which refusal 16 and the out-places see what is connected: those just before the firing.
 abbrev pub bondsSeen : Arcs → List Bond → List Bond
@@ -53,9 +53,9 @@ sent side bs [] p old = old
 sent side bs (e ∷ es) p old = pick (connected bs (e .base) p) (side e) (sent side bs es p old)
 
 -- Firing: each moved base goes to the out-place of the entries to which it is connected; the out-bonds are added.
-abbrev pub fire : Net → Arcs → Marking → Marking
-fire net t s = record {
-  places = table (net .bases) (λ p. sent (λ (e : Entry). e .to) (bondsSeen t (s .bonds)) (t .entries) p (place s p));
+abbrev pub fire : ℕ → Arcs → Marking → Marking
+fire n t s = record {
+  places = table n (λ p. sent (λ (e : Entry). e .to) (bondsSeen t (s .bonds)) (t .entries) p (place s p));
   bonds = puts sameBond lessBond (t .outBonds) (s .bonds);
 }
 
@@ -65,11 +65,11 @@ newBond t b = hasBond b (t .outBonds) && not (hasBond b (t .inBonds))
 
 -- Taking back the firing that moved m: its new bonds are removed, and then each base of m goes to the in-place of the
 -- entries to which it is connected by the bonds that are left.
-abbrev pub undo : Net → Arcs → List Bool → Marking → Marking
-undo net t m s =
+abbrev pub undo : ℕ → Arcs → List Bool → Marking → Marking
+undo n t m s =
     let bs = keep (λ (b : Bond). not (newBond t b)) (s .bonds) in
     record {
-      places = table (net .bases) (λ p. pick (inSet m p) (sent (λ (e : Entry). e .from) bs (t .entries) p (place s p)) (place s p));
+      places = table n (λ p. pick (inSet m p) (sent (λ (e : Entry). e .from) bs (t .entries) p (place s p)) (place s p));
       bonds = bs;
     }
 
@@ -80,5 +80,5 @@ pub record Fires (net : Net) (s : Marking) (t : Transition) (m : List Bool) (z :
   pub present : bondAbsent (arcsOf net t) s ≡ false
   pub absent : bondPresent (arcsOf net t) s ≡ false
   pub together : tornApart (arcsOf net t) s ≡ false
-  pub moves-m : m ≡ moved net (arcsOf net t) s
-  pub gives : z ≡ fire net (arcsOf net t) s
+  pub moves-m : m ≡ moved (net .bases) (arcsOf net t) s
+  pub gives : z ≡ fire (net .bases) (arcsOf net t) s

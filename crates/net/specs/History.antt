@@ -22,8 +22,8 @@ abbrev pub replays : Net → Marking → List LiveLine → Marking → Bool
 replays net s [] z = sameMarking s z
 replays net s (l ∷ ls) z =
     clear (enableChecks net s (l .transition))
-    && (sameList Bool·beq (l .moved) (moved net (arcsOf net (l .transition)) s)
-    && replays net (fire net (arcsOf net (l .transition)) s) ls z)
+    && (sameList Bool·beq (l .moved) (moved (net .bases) (arcsOf net (l .transition)) s)
+    && replays net (fire (net .bases) (arcsOf net (l .transition)) s) ls z)
 
 -- Keys strictly ascend, from 1 to 65,535; at most 256 firings are live.
 abbrev pub keysInOrder : List LiveLine → Bool

@@ -151,12 +151,12 @@ abbrev pub newKey : Journal → Key
 newKey j = key (suc (lastGiven j))
 
 abbrev pub newLine : Net → Journal → Transition → LiveLine
-newLine net j t = record { transition = t; key = newKey j; moved = moved net (arcsOf net t) (j .marking) }
+newLine net j t = record { transition = t; key = newKey j; moved = moved (net .bases) (arcsOf net t) (j .marking) }
 
 -- Kind 1: the firing, on the journal's places and bonds; its line goes at the end.
 abbrev pub fireReply : Net → Journal → Transition → Reply
 fireReply net j t = record {
-  journal = record { marking = fire net (arcsOf net t) (j .marking); lines = j .lines ++ (newLine net j t ∷ []) };
+  journal = record { marking = fire (net .bases) (arcsOf net t) (j .marking); lines = j .lines ++ (newLine net j t ∷ []) };
   answer = fired (newKey j);
 }
 
@@ -165,7 +165,7 @@ abbrev pub undoReply : Net → Journal → Key → Reply
 undoReply net j k =
     let l : LiveLine = lineOf k (j .lines) in
     record {
-      journal = record { marking = undo net (arcsOf net (l .transition)) (l .moved) (j .marking); lines = without k (j .lines) };
+      journal = record { marking = undo (net .bases) (arcsOf net (l .transition)) (l .moved) (j .marking); lines = without k (j .lines) };
       answer = undone k;
     }
 
