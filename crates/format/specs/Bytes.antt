@@ -2,6 +2,8 @@
 -- Definitions only. Each width stands here once.
 use Prim.Native.Nat.{ℕ, _+_, _*_}
 use mathlib.Core.List.{List}
+use mathlib.Core.Bool.{Bool, _||_}
+use lib.Dec.{eqb, ltb}
 use lib.ListN.{getD}
 use Rattle.net.specs.Net.{bond}
 use Rattle.net.specs.declared.Bond.{Bond}
@@ -9,6 +11,10 @@ use Rattle.net.specs.declared.Entry.{Entry}
 
 abbrev pub byteAt : List ℕ → ℕ → ℕ
 byteAt s at = getD s at 0
+
+-- a count that is not 1 to max
+abbrev pub outside : ℕ → ℕ → Bool
+outside n max = eqb n 0 || ltb max n
 
 -- a two-byte number, low byte first
 abbrev pub wordAt : List ℕ → ℕ → ℕ

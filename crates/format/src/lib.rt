@@ -2,7 +2,10 @@
 // specs/ says what the bytes mean, up to the net that they describe; which sheets are accepted is the crate sheet's.
 ghost use mathlib.Core.Path.{_≡_};
 ghost use Prim.Native.Nat.{_+_, _*_, _<_, _≤_};
-ghost use Rattle.format.specs.Bytes.{byteAt, wordAt, baseAt, entryAt, bondAt, entryWidth, bondWidth};
+ghost use mathlib.Core.Bool.{Bool};
+ghost use lib.ListN.{length};
+ghost use Rattle.net.specs.Net.{lessBond};
+ghost use Rattle.format.specs.Bytes.{outside, byteAt, wordAt, baseAt, entryAt, bondAt, entryWidth, bondWidth};
 ghost use Rattle.format.specs.Parts.{versionOf, placesOf, basesOf, transitionsOf, offsetOf, lengthOf, partOf, startPlaces, startBonds, transitionBytes};
 ghost use Rattle.format.specs.Arcs.{entryCount, nthEntry, inAt, inCount, nthInBond, outAt, outCount, nthOutBond, arcsWidth};
 ghost use Rattle.format.specs.NetOf.{startBondCount, nthStartBond};
@@ -30,6 +33,13 @@ pub fn byte_at(s: &[u8], at: usize) -> u8
     ensures { λ r. ⌜ r ≡ byteAt (now (s .entry)) at ⌝ }
 {
     if at < s.len() { s[at] } else { 0 }
+}
+
+// Whether a count is not 1 to max.
+pub fn outside(n: usize, max: usize) -> bool
+    ensures { λ r. ⌜ r ≡ outside n max ⌝ }
+{
+    n == 0 || max < n
 }
 
 // A two-byte number, low byte first; bytes past the end are 0.
@@ -70,6 +80,13 @@ pub fn bond_at(s: &[u8], at: u32) -> Bond
     let lo = base_at(s, at);
     let hi = base_at(s, at + BASE_WIDTH);
     Bond { lo: lo, hi: hi }
+}
+
+// Bonds are ordered as pairs.
+pub fn bond_before(b: Bond, c: Bond) -> bool
+    ensures { λ r. ⌜ r ≡ lessBond b c ⌝ }
+{
+    b.lo < c.lo || b.lo == c.lo && b.hi < c.hi
 }
 
 // ---- The header
@@ -120,6 +137,7 @@ pub fn pair_length(sheet: &[u8], k: u16) -> usize
 // The part of the sheet that pair k names; the empty one where it does not lie in the sheet.
 pub fn part<'a>(sheet: &'a [u8], k: u16) -> &'a [u8]
     ensures { λ r. ⌜ now r ≡ partOf (now (sheet .entry)) k ⌝ }
+    ensures { λ r. ⌜ length (now r) < 65536 ⌝ }
 {
     let from = pair_offset(sheet, k);
     let len = pair_length(sheet, k);
@@ -139,16 +157,17 @@ pub fn start_places<'a>(sheet: &'a [u8]) -> &'a [u8]
 
 pub fn start_bonds<'a>(sheet: &'a [u8]) -> &'a [u8]
     ensures { λ r. ⌜ now r ≡ startBonds (now (sheet .entry)) ⌝ }
+    ensures { λ r. ⌜ length (now r) < 65536 ⌝ }
 {
     part(sheet, 1)
 }
 
 // The start couplings: as many as their bytes hold.
-pub fn start_bond_count(sheet: &[u8]) -> usize
+pub fn start_bond_count(sheet: &[u8]) -> u16
     ensures { λ r. ⌜ r ≡ startBondCount (now (sheet .entry)) ⌝ }
 {
     let bonds = start_bonds(sheet);
-    bonds.len() / BOND_WIDTH
+    (bonds.len() / BOND_WIDTH) as u16
 }
 
 pub fn start_bond(sheet: &[u8], i: u16) -> Bond

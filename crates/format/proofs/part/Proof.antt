@@ -1,5 +1,7 @@
 -- `format::part` meets its contract.
 -- Assumes nothing.
+use native.Mathlib.Omega.{arith}
+use lib.ListN.{length-take, length-drop}
 use Rattle.format.proofs.Parts.{found, missing}
 use borrow.Author.Needs.{needs}
 use Rattle.format.proofs.part.Statement.{statement}
@@ -33,10 +35,10 @@ part-result-end-2 : tie.Need-part-result-end-2
 part-result-end-2 c = search needs
 
 returns : tie.Need-returns
-returns c = found _ _ _ _ (c .before .before .before .pair-offset .ensures .0) (c .before .before .pair-length .ensures .0) (c .before .if1 .taken)
+returns c = (found _ _ _ _ (c .before .before .before .pair-offset .ensures .0) (c .before .before .pair-length .ensures .0) (c .before .if1 .taken), simp (length-take, length-drop) (omega arith))
 
 returns-2 : tie.Need-returns-2
-returns-2 c = missing _ _ _ _ (c .before .before .before .pair-offset .ensures .0) (c .before .before .pair-length .ensures .0) (c .before .if1 .left)
+returns-2 c = (missing _ _ _ _ (c .before .before .before .pair-offset .ensures .0) (c .before .before .pair-length .ensures .0) (c .before .if1 .left), search needs)
 
 pub part-spec : {M : Type 1} → statement M
 part-spec =

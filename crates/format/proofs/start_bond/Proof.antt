@@ -18,7 +18,7 @@ bond-at-requires : tie.Need-bond-at-requires
 bond-at-requires c κs = search needs
 
 returns : tie.Need-returns
-returns c = c .bond-at .ensures ∙ rw (c .before .start-bonds .ensures)
+returns c = c .bond-at .ensures ∙ rw (c .before .start-bonds .ensures .0)
 
 pub start-bond-spec : {M : Type 1} → statement M
 start-bond-spec =

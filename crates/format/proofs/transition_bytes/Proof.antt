@@ -31,7 +31,7 @@ part-result-end : tie.Need-part-result-end
 part-result-end c = search needs
 
 returns : tie.Need-returns
-returns c = c .part .ensures ∙ on-sheet _ _ _ (c .before .before .before .before .transition-count .ensures) (c .before .before .if1 .taken)
+returns c = c .part .ensures .0 ∙ on-sheet _ _ _ (c .before .before .before .before .transition-count .ensures) (c .before .before .if1 .taken)
 
 returns-2 : tie.Need-returns-2
 returns-2 c = not-on-sheet _ _ _ (c .before .before .before .transition-count .ensures) (c .before .if1 .left)
