@@ -1,0 +1,2 @@
+-- The session record, and the journal that it holds.
+pub mod Records
