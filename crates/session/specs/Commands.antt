@@ -1,0 +1,114 @@
+-- Starting a session, and one command on a record: the checks in order, the answer, the key, the record, the tally.
+-- Definitions only (01, commands, record, tally; the turned-away list). `commandOf` fixes every outcome whole.
+use mathlib.Core.Bool.{Bool, not}
+use mathlib.Core.List.{List, [], _∷_, _++_}
+use Prim.Native.Nat.{ℕ}
+use lib.Dec.{eqb}
+use lib.ListN.{replicate}
+use Rattle.net.specs.Limits.{maxLive}
+use Rattle.net.specs.Tests.{pick}
+use Rattle.net.specs.Checks.{Check, check, clear, first}
+use Rattle.net.specs.Journal as J
+use Rattle.net.specs.Journal.{Journal, key, kindOf, numberOf, unreadable, transitionNamed, keyNamed, fireReply, undoReply, begin, checks}
+use Rattle.net.specs.declared.Key.{Key}
+use Rattle.format.specs.NetOf.{netOf}
+use Rattle.sheet.specs.Checks.{sheetChecks}
+use Rattle.tally.specs.Counts.{countedOf}
+use Rattle.tally.specs.declared.Tally.{Tally}
+use Rattle.record.specs.Records.{noFiring, recordOf}
+use Rattle.record.specs.declared.Record.{Record}
+use Rattle.session.specs.Soundness.{heldIn, soundFor}
+use Rattle.session.specs.declared.Command.{Command}
+use Rattle.session.specs.declared.Command.the-variants.{Fire, UndoLast, Undo}
+use Rattle.session.specs.declared.Decoded.{Decoded}
+use Rattle.session.specs.declared.Decoded.the-variants.{Given, Unreadable}
+use Rattle.session.specs.declared.Answer.{Answer}
+use Rattle.session.specs.declared.Answer.the-variants.{Fired, Undone, Refused}
+use Rattle.session.specs.declared.Outcome.{Outcome}
+use Rattle.session.specs.declared.StartAnswer.{StartAnswer}
+use Rattle.session.specs.declared.StartAnswer.the-variants.{Started, NotStarted}
+use Rattle.session.specs.declared.Start.{Start}
+
+-- ---- Starting a session
+
+-- A fresh record: the start places, the start couplings, no live firing.
+unfoldable pub freshOf : List ℕ → Record
+freshOf s = recordOf (begin (netOf s))
+
+-- A record of zeros: no place, no bond, no firing.
+unfoldable pub zeroRecord : Record
+zeroRecord = recordOf (record { marking = record { places = []; bonds = [] }; lines = [] })
+
+-- The fresh record, or a record of zeros with the sheet's refusal.
+unfoldable pub startOf : List ℕ → Start
+startOf s = pick (clear (sheetChecks s)) (record { answer = Started; session = freshOf s }) (record { answer = NotStarted (first (sheetChecks s)); session = zeroRecord })
+
+-- Document 01's number of each answer; 0 for a session that is started.
+abbrev pub startNumber : StartAnswer → ℕ
+startNumber Started = 0
+startNumber (NotStarted n) = n
+
+-- ---- Decoding
+
+-- What the kind and the number say (01, commands): kind 1 fires a transition, kind 2 takes back the last firing and has
+-- number 0, kind 3 takes back a firing by its key.
+abbrev pub decodedOf : List ℕ → Decoded
+decodedOf c = pick (unreadable c) Unreadable
+    (Given (pick (eqb (kindOf c) 1) (Fire (transitionNamed c)) (pick (eqb (kindOf c) 2) UndoLast (Undo (key (numberOf c))))))
+
+-- ---- One command
+
+-- A refused command gives back the very record, and key 0.
+abbrev pub refusal : Record → ℕ → Outcome
+refusal r n = record { answer = Refused n; key = key 0; session = r }
+
+-- A journal's answer, by the enum's cases, and its key.
+abbrev pub answerOf : J.Answer → Answer
+answerOf (J.fired k) = Fired
+answerOf (J.undone k) = Undone
+answerOf (J.refused n) = Refused n
+
+abbrev pub keyOf : J.Answer → Key
+keyOf (J.fired k) = k
+keyOf (J.undone k) = k
+keyOf (J.refused n) = key 0
+
+-- Document 01's number of each answer: 0 where the command is accepted.
+abbrev pub answerNumber : Answer → ℕ
+answerNumber Fired = 0
+answerNumber Undone = 0
+answerNumber (Refused n) = n
+
+-- The count that a command adds to: fired, undone or refused.
+abbrev pub countOf : Answer → ℕ
+countOf Fired = 0
+countOf Undone = 1
+countOf (Refused n) = 2
+
+-- A journal's reply, as an outcome.
+abbrev pub outcomeOf : J.Reply → Outcome
+outcomeOf y = record { answer = answerOf (y .answer); key = keyOf (y .answer); session = recordOf (y .journal) }
+
+-- What an accepted command does: what it does to the journal that the record holds.
+abbrev pub acceptOf : List ℕ → Record → List ℕ → Outcome
+acceptOf s r c = outcomeOf (pick (eqb (kindOf c) 1) (fireReply (netOf s) (heldIn s r) (transitionNamed c)) (undoReply (netOf s) (heldIn s r) (keyNamed (heldIn s r) c)))
+
+-- A command on a sound record and an accepted sheet: 21, or 11 to 20 in order.
+unfoldable pub performOf : List ℕ → Record → List ℕ → Outcome
+performOf s r c = pick (clear (checks (netOf s) (heldIn s r) c)) (acceptOf s r c) (refusal r (first (checks (netOf s) (heldIn s r) c)))
+
+-- All checks of a command, in checking order: 1 to 9, 10, then 21, or 11 to 20.
+abbrev pub commandChecks : List ℕ → Record → List ℕ → List Check
+commandChecks s r c = sheetChecks s ++ (check 10 (not (soundFor s r)) ∷ checks (netOf s) (heldIn s r) c)
+
+-- The outcome and the tally of a command.
+pub record Result : Type 0 where
+  pub outcome : Outcome
+  pub tally : Tally
+
+unfoldable pub outcomeFor : List ℕ → Record → List ℕ → Outcome
+outcomeFor s r c = pick (clear (commandChecks s r c)) (acceptOf s r c) (refusal r (first (commandChecks s r c)))
+
+-- Every outcome whole: answer, key, record, tally, on acceptance and on refusal.
+unfoldable pub commandOf : List ℕ → Record → Tally → List ℕ → Result
+commandOf s r t c = record { outcome = outcomeFor s r c; tally = countedOf t (countOf (outcomeFor s r c .answer)) }
