@@ -43,7 +43,10 @@ pub fn wrong_width(b: &[u8]) -> bool
 fn entry_there(e: Entry, places: Place, bases: Base) -> bool
     ensures { λ r. ⌜ r ≡ entryRule places bases e ⌝ }
 {
-    e.base < bases && e.from < places && e.to < places
+    if bases <= e.base {
+        return false;
+    }
+    e.from < places && e.to < places
 }
 
 fn entries_there(b: &[u8], places: Place, bases: Base) -> bool
