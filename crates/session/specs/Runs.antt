@@ -2,16 +2,21 @@
 -- Definitions only.
 use mathlib.Core.List.{List, [], _∷_}
 use Prim.Native.Nat.{ℕ}
+use Rattle.net.specs.Journal as J
 use Rattle.net.specs.declared.Key.{Key}
 use Rattle.tally.specs.declared.Tally.{Tally}
 use Rattle.record.specs.declared.Record.{Record}
-use Rattle.session.specs.Commands.{Result, commandOf}
+use Rattle.session.specs.Commands.{answerOf, keyOf, Result, commandOf}
 use Rattle.session.specs.declared.Answer.{Answer}
 
 -- An answer as a list of them keeps it.
 pub record Answered : Type 0 where
   pub answer : Answer
   pub key : Key
+
+-- a journal's answer
+abbrev pub answered : J.Answer → Answered
+answered a = record { answer = answerOf a; key = keyOf a }
 
 -- the record, the tally and the answers after the commands
 pub record Session : Type 0 where

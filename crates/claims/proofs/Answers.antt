@@ -1,0 +1,145 @@
+-- Demands 1 and 2: one command on any sheet, record and tally.
+-- Assumes nothing.
+use mathlib.Core.Path.{_≡_, refl, sym, _∙_, ap}
+use mathlib.Core.Bool.{Bool, true, false, not, _&&_}
+use mathlib.Core.List.{List, [], _∷_, _++_}
+use Prim.Native.Nat.{ℕ, zero, suc, _+_, _<_}
+use native.Mathlib.Omega.{arith}
+use lib.Dec.{eqb, ltb}
+use borrow.Author.Tests.{ltb-true}
+use Rattle.causal.proofs.Tests.{test, both}
+use Rattle.net.specs.Tests.{pick, all}
+use Rattle.net.specs.Checks.{Check, check, clear, first}
+use Rattle.net.specs.Journal as J
+use Rattle.net.specs.Journal.{kindOf, transitionNamed, keyNamed, fireReply, undoReply, checks, kindChecks, fireChecks, undoChecks}
+use Rattle.net.proofs.Tests.{and-l, and-r, and-i, all-append}
+use Rattle.format.specs.Parts.{transitionsOf}
+use Rattle.format.specs.NetOf.{netOf}
+use Rattle.sheet.specs.Checks.{sheetChecks, checksFrom}
+use Rattle.tally.specs.Counts.{countedOf}
+use Rattle.tally.specs.declared.Tally.{Tally}
+use Rattle.record.specs.declared.Record.{Record}
+use Rattle.session.specs.Soundness.{heldIn, soundFor}
+use Rattle.session.specs.Commands.{refusal, answerNumber, countOf, outcomeOf, acceptOf, commandChecks, Result, outcomeFor, commandOf}
+use Rattle.session.specs.declared.Answer.{Answer}
+use Rattle.session.specs.declared.Answer.the-variants.{Fired, Undone, Refused}
+use Rattle.session.specs.declared.Outcome.{Outcome}
+use Rattle.session.proofs.Steps.{outcome-is}
+use Rattle.claims.specs.Demands.{oneMoreRefused, Demand1, FirstHolds, Demand2}
+
+-- ---- lists of checks
+
+abbrev positive : List Check → Bool
+positive cs = all (λ (c : Check). ltb 0 (c .number)) cs
+
+none-clear : (cs : List Check) → positive cs ≡ true → first cs ≡ 0 → clear cs ≡ true
+none-clear [] p e = refl
+none-clear (c ∷ cs) p e = go (c .holds) e (none-clear cs (and-r (ltb 0 (c .number)) (positive cs) p))
+  where
+    go : (b : Bool) → pick b (c .number) (first cs) ≡ 0 → (first cs ≡ 0 → clear cs ≡ true) → (not b && clear cs) ≡ true
+    go true d ih = absurd (let z : ⊥ = (let q = ltb-true 0 (c .number) (and-l (ltb 0 (c .number)) (positive cs) p) in omega arith) in z)
+    go false d ih = ih d
+
+clear-none : (cs : List Check) → clear cs ≡ true → first cs ≡ 0
+clear-none [] h = refl
+clear-none (c ∷ cs) h = go (c .holds) h (clear-none cs)
+  where
+    go : (b : Bool) → (not b && clear cs) ≡ true → (clear cs ≡ true → first cs ≡ 0) → pick b (c .number) (first cs) ≡ 0
+    go true d ih = both false d refl
+    go false d ih = ih d
+
+-- where some check holds, the first that does is found
+first-found : (cs : List Check) → clear cs ≡ false → FirstHolds (first cs) cs
+first-found [] h = both true refl h
+first-found (c ∷ cs) h = go (c .holds) refl h (first-found cs)
+  where
+    go : (b : Bool) → c .holds ≡ b → (not b && clear cs) ≡ false → (clear cs ≡ false → FirstHolds (first cs) cs) → FirstHolds (pick b (c .number) (first cs)) (c ∷ cs)
+    go true e d ih = ([], cs, (λ i. record { number = c .number; holds = e i } ∷ cs), refl)
+    go false e d ih = let (before, after, q, k) = ih d in (c ∷ before, after, (λ i. c ∷ q i), rw e k)
+
+found-first : (n : ℕ) (before after : List Check) → clear before ≡ true → (first (before ++ check n true ∷ after) ≡ n) × (clear (before ++ check n true ∷ after) ≡ false)
+found-first n [] after h = (refl, refl)
+found-first n (c ∷ before) after h = go (c .holds) h (found-first n before after)
+  where
+    go : (b : Bool) → (not b && clear before) ≡ true
+        → (clear before ≡ true → (first (before ++ check n true ∷ after) ≡ n) × (clear (before ++ check n true ∷ after) ≡ false))
+        → (pick b (c .number) (first (before ++ check n true ∷ after)) ≡ n) × ((not b && clear (before ++ check n true ∷ after)) ≡ false)
+    go true d ih = both false d refl
+    go false d ih = ih d
+
+-- ---- the numbers of all checks of a command
+
+from-positive : (s : List ℕ) (k n : ℕ) → positive (checksFrom s k n) ≡ true
+from-positive s k zero = refl
+from-positive s k (suc n) = from-positive s (k + 1) n
+
+sheet-positive : (s : List ℕ) → positive (sheetChecks s) ≡ true
+unfolding sheetChecks
+sheet-positive s = from-positive s 0 (transitionsOf s)
+
+command-positive : (s : List ℕ) (r : Record) (c : List ℕ) → positive (commandChecks s r c) ≡ true
+command-positive s r c = all-append (λ (d : Check). ltb 0 (d .number)) (sheetChecks s) (check 10 (not (soundFor s r)) ∷ checks (netOf s) (heldIn s r) c)
+    ∙ rw (sheet-positive s) (kind (eqb (kindOf c) 1))
+  where
+    kind : (b : Bool) → positive (pick b (fireChecks (netOf s) (heldIn s r) (transitionNamed c)) (undoChecks (heldIn s r) (keyNamed (heldIn s r) c))) ≡ true
+    kind true = refl
+    kind false = refl
+
+-- ---- one outcome
+
+-- an accepted command's answer
+accepted-answer : (s : List ℕ) (r : Record) (c : List ℕ) → (n : ℕ) → acceptOf s r c .answer ≡ Refused n → ⊥
+accepted-answer s r c n e = go (eqb (kindOf c) 1) e
+  where
+    isRefused : Answer → Bool
+    isRefused Fired = false
+    isRefused Undone = false
+    isRefused (Refused k) = true
+
+    go : (b : Bool) → outcomeOf (pick b (fireReply (netOf s) (heldIn s r) (transitionNamed c)) (undoReply (netOf s) (heldIn s r) (keyNamed (heldIn s r) c))) .answer ≡ Refused n → ⊥
+    go true d = both false (ap isRefused d) refl
+    go false d = both false (ap isRefused d) refl
+
+-- the outcome, by whether some check holds
+module _ (s : List ℕ) (r : Record) (t : Tally) (c : List ℕ) where
+  when-clear : clear (commandChecks s r c) ≡ true → commandOf s r t c .outcome ≡ acceptOf s r c
+  unfolding outcomeFor
+  when-clear h = outcome-is s r t c ∙ ap (λ (b : Bool). pick b (acceptOf s r c) (refusal r (first (commandChecks s r c)))) h
+
+  when-held : clear (commandChecks s r c) ≡ false → commandOf s r t c .outcome ≡ refusal r (first (commandChecks s r c))
+  unfolding outcomeFor
+  when-held h = outcome-is s r t c ∙ ap (λ (b : Bool). pick b (acceptOf s r c) (refusal r (first (commandChecks s r c)))) h
+
+  accepted-number : answerNumber (acceptOf s r c .answer) ≡ 0
+  accepted-number = go (eqb (kindOf c) 1)
+    where
+      go : (b : Bool) → answerNumber (outcomeOf (pick b (fireReply (netOf s) (heldIn s r) (transitionNamed c)) (undoReply (netOf s) (heldIn s r) (keyNamed (heldIn s r) c))) .answer) ≡ 0
+      go true = refl
+      go false = refl
+
+  -- a refused answer has the number of the first check that holds
+  refused-held : (n : ℕ) → commandOf s r t c .outcome .answer ≡ Refused n → (clear (commandChecks s r c) ≡ false) × (first (commandChecks s r c) ≡ n)
+  refused-held n e = test (clear (commandChecks s r c))
+      (λ h. absurd (accepted-answer s r c n (sym (ap (λ (o : Outcome). o .answer) (when-clear h)) ∙ e)))
+      (λ h. (h, ap answerNumber (sym (ap (λ (o : Outcome). o .answer) (when-held h)) ∙ e)))
+
+  tally-is : (n : ℕ) → commandOf s r t c .outcome ≡ refusal r n → commandOf s r t c ≡ record { outcome = refusal r n; tally = oneMoreRefused t }
+  unfolding commandOf countedOf
+  tally-is n e = λ i. record { outcome = e i; tally = countedOf t (countOf (e i .answer)) }
+
+  pub demand1 : Demand1 s r t c
+  demand1 = record {
+    number = test (clear (commandChecks s r c))
+        (λ h. ap (λ (o : Outcome). answerNumber (o .answer)) (when-clear h) ∙ accepted-number ∙ sym (clear-none (commandChecks s r c) h))
+        (λ h. ap (λ (o : Outcome). answerNumber (o .answer)) (when-held h));
+    accepted = none-clear (commandChecks s r c) (command-positive s r c);
+    refused = λ n e. let (h, q) = refused-held n e in tally-is n (when-held h ∙ ap (refusal r) q);
+  }
+
+  pub demand2 : Demand2 s r t c
+  demand2 = record {
+    fires = λ h k. when-clear h ∙ ap (λ (b : Bool). outcomeOf (pick b (fireReply (netOf s) (heldIn s r) (transitionNamed c)) (undoReply (netOf s) (heldIn s r) (keyNamed (heldIn s r) c)))) k;
+    undoes = λ h k. when-clear h ∙ ap (λ (b : Bool). outcomeOf (pick b (fireReply (netOf s) (heldIn s r) (transitionNamed c)) (undoReply (netOf s) (heldIn s r) (keyNamed (heldIn s r) c)))) k;
+    refuses = λ n (before, after, e, h). let (q, k) = found-first n before after h in ap (λ (o : Outcome). o .answer) (when-held (ap clear e ∙ k)) ∙ ap Refused (ap first e ∙ q);
+    otherwise = λ n e. let (h, q) = refused-held n e in rw (← q) (first-found (commandChecks s r c) h);
+  }

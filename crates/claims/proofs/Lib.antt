@@ -1,0 +1,5 @@
+-- The proofs of the demands.
+pub mod Answers
+pub mod Sessions
+pub mod Counts
+pub mod Demands

@@ -1,0 +1,42 @@
+-- Demand 3: a whole list of commands on an accepted sheet, from a fresh record.
+-- Assumes an accepted sheet.
+use mathlib.Core.Path.{_≡_, refl, sym, _∙_, ap}
+use mathlib.Core.Bool.{true}
+use mathlib.Core.List.{List, map}
+use Prim.Native.Nat.{ℕ, _≤_}
+use Rattle.causal.specs.Reorderings.{Reordering}
+use Rattle.net.specs.Limits.{maxBases}
+use Rattle.net.specs.Rules.{netRule}
+use Rattle.net.specs.Checks.{clear}
+use Rattle.net.specs.Firing.{inSet}
+use Rattle.net.specs.Journal as J
+use Rattle.net.specs.Journal.{LiveLine, Journal, begin}
+use Rattle.net.specs.Claims as N
+use Rattle.net.specs.Claims.{fireCommands}
+use Rattle.net.proofs.Demand3 as N′
+use Rattle.format.specs.Parts.{basesOf}
+use Rattle.format.specs.NetOf.{netOf}
+use Rattle.sheet.specs.Checks.{sheetChecks}
+use Rattle.tally.specs.declared.Tally.{Tally}
+use Rattle.record.specs.Records.{recordOf}
+use Rattle.session.specs.Runs.{answered}
+use Rattle.session.proofs.Steps.{follows-fresh}
+use Rattle.claims.specs.Demands.{journalAfter, ForwardRun, Demand3}
+
+module _ (s : List ℕ) (accepted : clear (sheetChecks s) ≡ true) (ok : netRule (netOf s) ≡ true) (few : basesOf s ≤ maxBases) where
+  -- a forward run of the journal is one of the record
+  forward : (ls : List LiveLine) (z : _) → N.Forward (netOf s) ls z → (t : Tally) → ForwardRun s ls z t
+  forward ls z F t =
+      let y = follows-fresh s accepted ok few (fireCommands ls) t in
+      record { fired = y .answers ∙ ap (map answered) (F .answer); session = y .session ∙ ap recordOf (F .journal) }
+
+  pub demand3 : (cs : List (List ℕ)) (t : Tally) → Demand3 s cs t
+  demand3 cs t =
+      let y = follows-fresh s accepted ok few cs t in
+      let D = N′.demand3 (netOf s) ok cs in
+      record {
+        session = y .session;
+        answers = y .answers;
+        inOrder = forward (journalAfter s cs .lines) (journalAfter s cs .marking) (D .inOrder);
+        reordered = λ ls R. forward ls (journalAfter s cs .marking) (D .reordered ls R);
+      }

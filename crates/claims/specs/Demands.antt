@@ -1,0 +1,105 @@
+-- The customer's three demands and document 01's totals, as statements about `commandOf` and its fold over a list of
+-- commands. The contract of the public command equates the call with `commandOf`. Statements only; proofs/ proves each.
+--
+-- Not stated here: that a call reads and writes nothing outside what it was lent. That is the checker's own part: it
+-- proves of every function that each index is within its slice or array.
+use mathlib.Core.Path.{_≡_}
+use mathlib.Core.Bool.{Bool, true, false}
+use mathlib.Core.List.{List, [], _∷_, _++_, map}
+use Prim.Native.Nat.{ℕ, _+_, _≤_}
+use lib.Dec.{eqb}
+use lib.ListN.{length}
+use Rattle.causal.specs.Reorderings.{Reordering}
+use Rattle.net.specs.Net.{Marking}
+use Rattle.net.specs.Checks.{Check, check, clear, first}
+use Rattle.net.specs.Firing.{inSet}
+use Rattle.net.specs.Journal.{LiveLine, Journal, kindOf, transitionNamed, keyNamed, fireReply, undoReply, begin, play, answers}
+use Rattle.net.specs.Claims.{fireCommands, numbered, allFired, Totals}
+use Rattle.format.specs.NetOf.{netOf}
+use Rattle.sheet.specs.Checks.{sheetChecks}
+use Rattle.tally.specs.Counts.{oneMore}
+use Rattle.tally.specs.declared.Tally.{Tally}
+use Rattle.record.specs.Records.{recordOf}
+use Rattle.record.specs.declared.Record.{Record}
+use Rattle.session.specs.Soundness.{heldIn}
+use Rattle.session.specs.Commands.{freshOf, refusal, answerNumber, outcomeOf, commandChecks, Result, commandOf}
+use Rattle.session.specs.Runs.{answered, Session, runOf}
+use Rattle.session.specs.declared.Answer.{Answer}
+use Rattle.session.specs.declared.Answer.the-variants.{Refused}
+
+-- ---- Demand 1: every sheet, record and command, however mangled, is answered by acceptance or by one number
+
+-- the tally with one more refused; a count at 65,535 stays there
+abbrev pub oneMoreRefused : Tally → Tally
+oneMoreRefused t = record { fired = t .fired; undone = t .undone; refused = oneMore (t .refused) }
+
+pub record Demand1 (s : List ℕ) (r : Record) (t : Tally) (c : List ℕ) : Type 0 where
+  -- the answer's number is that of the first check that holds, 0 where the command is accepted
+  pub number : answerNumber (commandOf s r t c .outcome .answer) ≡ first (commandChecks s r c)
+  -- and 0 is the number of no check
+  pub accepted : first (commandChecks s r c) ≡ 0 → clear (commandChecks s r c) ≡ true
+  -- a refused command leaves the record as it was, gives key 0 and adds one to refused
+  pub refused : (n : ℕ) → commandOf s r t c .outcome .answer ≡ Refused n
+      → commandOf s r t c ≡ record { outcome = refusal r n; tally = oneMoreRefused t }
+
+-- ---- Demand 2: firing and taking back give exactly what document 01's definitions give
+
+-- The check of number n is the first that holds: those before it do not.
+abbrev pub FirstHolds : ℕ → List Check → Type 0
+FirstHolds n cs = (before : List Check) × (after : List Check) × (cs ≡ before ++ check n true ∷ after) × (clear before ≡ true)
+
+pub record Demand2 (s : List ℕ) (r : Record) (t : Tally) (c : List ℕ) : Type 0 where
+  -- a firing that no check refuses is the journal's firing, on what the record holds
+  pub fires : clear (commandChecks s r c) ≡ true → eqb (kindOf c) 1 ≡ true
+      → commandOf s r t c .outcome ≡ outcomeOf (fireReply (netOf s) (heldIn s r) (transitionNamed c))
+  -- and so with a taking back
+  pub undoes : clear (commandChecks s r c) ≡ true → eqb (kindOf c) 1 ≡ false
+      → commandOf s r t c .outcome ≡ outcomeOf (undoReply (netOf s) (heldIn s r) (keyNamed (heldIn s r) c))
+  -- a refusal is given where its condition is the first that holds
+  pub refuses : (n : ℕ) → FirstHolds n (commandChecks s r c) → commandOf s r t c .outcome .answer ≡ Refused n
+  -- and never otherwise
+  pub otherwise : (n : ℕ) → commandOf s r t c .outcome .answer ≡ Refused n → FirstHolds n (commandChecks s r c)
+
+-- ---- Demand 3: one claim about a whole list of commands on an accepted sheet, from a fresh record
+
+-- what the journal holds after the commands
+abbrev pub journalAfter : List ℕ → List (List ℕ) → Journal
+journalAfter s cs = play (netOf s) cs (begin (netOf s))
+
+-- the session after the commands
+abbrev pub sessionAfter : List ℕ → List (List ℕ) → Tally → Session
+sessionAfter s cs t = runOf s cs (freshOf s) t
+
+-- The lines' transitions, given as commands of kind 1 and nothing else from another fresh record, with any tally: each is
+-- answered `fired`, each moves the bases on its line, and the record ends in exactly the marking z.
+pub record ForwardRun (s : List ℕ) (ls : List LiveLine) (z : Marking) (t : Tally) : Type 0 where
+  pub fired : sessionAfter s (fireCommands ls) t .answers ≡ map answered (allFired 0 ls)
+  pub session : sessionAfter s (fireCommands ls) t .session ≡ recordOf (record { marking = z; lines = numbered 0 ls })
+
+pub record Demand3 (s : List ℕ) (cs : List (List ℕ)) (t : Tally) : Type 0 where
+  -- the record is the journal in the record's form, and each answer was the journal's
+  pub session : sessionAfter s cs t .session ≡ recordOf (journalAfter s cs)
+  pub answers : sessionAfter s cs t .answers ≡ map answered (answers (netOf s) cs (begin (netOf s)))
+  -- the firings not taken back run forward to the session's places and bonds, in their own order
+  pub inOrder : (t′ : Tally) → ForwardRun s (journalAfter s cs .lines) (journalAfter s cs .marking) t′
+  -- and in every reordering that keeps the order of any two that moved a common base
+  pub reordered : (ls : List LiveLine) → Reordering inSet (journalAfter s cs .lines) ls → (t′ : Tally) → ForwardRun s ls (journalAfter s cs .marking) t′
+
+-- ---- Document 01's totals
+
+abbrev pub zeroTally : Tally
+zeroTally = record { fired = 0; undone = 0; refused = 0 }
+
+pub record SessionTotals (s : List ℕ) (cs : List (List ℕ)) : Type 0 where
+  -- at every point each base is in one place, bonded bases share a place, and the bonds have their number
+  pub marking : Totals (netOf s) (journalAfter s cs)
+  -- over at most 65,535 commands from a tally of zeros, fired less undone is the number of live firings
+  pub live : length cs ≤ 65535 → sessionAfter s cs zeroTally .tally .fired ≡ sessionAfter s cs zeroTally .tally .undone + sessionAfter s cs zeroTally .session .live
+
+-- ---- All of it: 1 and 2 of every sheet, record, tally and command; 3 and the totals of every accepted sheet
+
+pub record Demands : Type 0 where
+  pub demand1 : (s : List ℕ) (r : Record) (t : Tally) (c : List ℕ) → Demand1 s r t c
+  pub demand2 : (s : List ℕ) (r : Record) (t : Tally) (c : List ℕ) → Demand2 s r t c
+  pub demand3 : (s : List ℕ) → clear (sheetChecks s) ≡ true → (cs : List (List ℕ)) (t : Tally) → Demand3 s cs t
+  pub totals : (s : List ℕ) → clear (sheetChecks s) ≡ true → (cs : List (List ℕ)) → SessionTotals s cs

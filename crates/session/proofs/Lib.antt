@@ -1,0 +1,3 @@
+-- Laws of commands on a record.
+pub mod Fits
+pub mod Steps
