@@ -3,19 +3,19 @@
 use mathlib.Core.Path.{_≡_, refl, sym, _∙_, ap}
 use mathlib.Core.Bool.{Bool, true, false, not, _&&_}
 use mathlib.Core.List.{List, [], _∷_, _++_}
-use Prim.Native.Nat.{ℕ, zero, suc, _+_, _<_}
-use native.Mathlib.Omega.{arith}
+use Prim.Native.Nat.{ℕ, zero, suc, _+_}
 use lib.Dec.{eqb, ltb}
-use borrow.Author.Tests.{ltb-true}
+use borrow.Author.Tests.{eqb-true, eq-eqb}
 use Rattle.causal.proofs.Tests.{test, both}
 use Rattle.net.specs.Tests.{pick, all}
 use Rattle.net.specs.Checks.{Check, check, clear, first}
 use Rattle.net.specs.Journal as J
 use Rattle.net.specs.Journal.{kindOf, transitionNamed, keyNamed, fireReply, undoReply, checks, kindChecks, fireChecks, undoChecks}
-use Rattle.net.proofs.Tests.{and-l, and-r, and-i, all-append}
+use Rattle.net.proofs.Tests.{all-append}
 use Rattle.format.specs.Parts.{transitionsOf}
 use Rattle.format.specs.NetOf.{netOf}
 use Rattle.sheet.specs.Checks.{sheetChecks, checksFrom}
+use Rattle.sheet.proofs.Order.{clear-first}
 use Rattle.tally.specs.Counts.{countedOf}
 use Rattle.tally.specs.declared.Tally.{Tally}
 use Rattle.record.specs.declared.Record.{Record}
@@ -31,22 +31,6 @@ use Rattle.claims.specs.Demands.{oneMoreRefused, Demand1, FirstHolds, De
 
 abbrev positive : List Check → Bool
 positive cs = all (λ (c : Check). ltb 0 (c .number)) cs
-
-none-clear : (cs : List Check) → positive cs ≡ true → first cs ≡ 0 → clear cs ≡ true
-none-clear [] p e = refl
-none-clear (c ∷ cs) p e = go (c .holds) e (none-clear cs (and-r (ltb 0 (c .number)) (positive cs) p))
-  where
-    go : (b : Bool) → pick b (c .number) (first cs) ≡ 0 → (first cs ≡ 0 → clear cs ≡ true) → (not b && clear cs) ≡ true
-    go true d ih = absurd (let z : ⊥ = (let q = ltb-true 0 (c .number) (and-l (ltb 0 (c .number)) (positive cs) p) in omega arith) in z)
-    go false d ih = ih d
-
-clear-none : (cs : List Check) → clear cs ≡ true → first cs ≡ 0
-clear-none [] h = refl
-clear-none (c ∷ cs) h = go (c .holds) h (clear-none cs)
-  where
-    go : (b : Bool) → (not b && clear cs) ≡ true → (clear cs ≡ true → first cs ≡ 0) → pick b (c .number) (first cs) ≡ 0
-    go true d ih = both false d refl
-    go false d ih = ih d
 
 -- where some check holds, the first that does is found
 first-found : (cs : List Check) → clear cs ≡ false → FirstHolds (first cs) cs
@@ -127,12 +111,16 @@ module _ (s : List ℕ) (r : Record) (t : Tally) (c : List ℕ) where
   unfolding commandOf countedOf
   tally-is n e = λ i. record { outcome = e i; tally = countedOf t (countOf (e i .answer)) }
 
+  -- none holds exactly where the first number is 0
+  none : clear (commandChecks s r c) ≡ eqb (first (commandChecks s r c)) 0
+  none = clear-first (commandChecks s r c) (command-positive s r c)
+
   pub demand1 : Demand1 s r t c
   demand1 = record {
     number = test (clear (commandChecks s r c))
-        (λ h. ap (λ (o : Outcome). answerNumber (o .answer)) (when-clear h) ∙ accepted-number ∙ sym (clear-none (commandChecks s r c) h))
+        (λ h. ap (λ (o : Outcome). answerNumber (o .answer)) (when-clear h) ∙ accepted-number ∙ sym (eqb-true (first (commandChecks s r c)) 0 (sym none ∙ h)))
         (λ h. ap (λ (o : Outcome). answerNumber (o .answer)) (when-held h));
-    accepted = none-clear (commandChecks s r c) (command-positive s r c);
+    accepted = λ e. none ∙ eq-eqb (first (commandChecks s r c)) 0 e;
     refused = λ n e. let (h, q) = refused-held n e in tally-is n (when-held h ∙ ap (refusal r) q);
   }
 
