@@ -16,7 +16,7 @@ use Rattle.net.specs.Net as Net
 use Rattle.net.specs.Journal.{LiveLine, Journal}
 use Rattle.net.specs.declared.Bond.{Bond}
 use Rattle.net.proofs.Tests.{and-i, all-i}
-use Rattle.marking.specs.Laid.{markingOf, laid, inForm, zeros, padded}
+use Rattle.marking.specs.Form.{markingOf, laid, inForm, zeroFrom, padded, los, his}
 use Rattle.record.specs.Records.{past, lineOf, linesOf, journalOf, noFiring, firingOf, firingsOf, recordOf, unset, isNoFiring, recordInForm}
 use Rattle.record.specs.declared.Firing.{Firing}
 use Rattle.record.specs.declared.Record.{Record}

@@ -17,7 +17,7 @@ use Rattle.net.specs.Journal.{LiveLine, Journal, key}
 use Rattle.net.specs.declared.Bond.{Bond}
 use Rattle.net.proofs.Tests.{and-l, and-r, all-e}
 use Rattle.net.proofs.Tables.{length-table, table-cong}
-use Rattle.marking.specs.Laid.{bondsOf, markingOf, laid, inForm, zeros, padded}
+use Rattle.marking.specs.Form.{bondsOf, markingOf, laid, inForm, zeroFrom, padded}
 use Rattle.marking.specs.declared.Marking.{Marking}
 use Rattle.record.specs.Records.{past, lineOf, linesOf, journalOf, noFiring, firingOf, firingsOf, recordOf, unset, isNoFiring, recordInForm}
 use Rattle.record.specs.declared.Firing.{Firing}

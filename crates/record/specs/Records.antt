@@ -8,7 +8,7 @@ use lib.ListN.{length, getD, take, drop, replicate}
 use Rattle.net.specs.Limits.{maxBases, maxLive}
 use Rattle.net.specs.Tests.{all, table}
 use Rattle.net.specs.Journal.{LiveLine, Journal, transition, key}
-use Rattle.marking.specs.Laid.{markingOf, laid, inForm}
+use Rattle.marking.specs.Form.{markingOf, laid, inForm}
 use Rattle.record.specs.declared.Firing.{Firing}
 use Rattle.record.specs.declared.Record.{Record}
 
