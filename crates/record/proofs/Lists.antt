@@ -4,13 +4,15 @@ use mathlib.Core.Path.{_≡_, refl, sym, _∙_, ap}
 use mathlib.Core.Logic.{inl, inr}
 use mathlib.Core.Bool.{Bool, true, false, _&&_}
 use mathlib.Core.List.{List, [], _∷_, _++_, map}
-use Prim.Native.Nat.{ℕ, zero, suc, _<_, _≤_, _-_}
+use Prim.Native.Nat.{ℕ, zero, suc, _<_, _≤_, _+_, _-_}
 use native.Mathlib.Omega.{arith}
 use native.Mathlib.Nat.{le-of-suc-le-suc, not-suc-le-zero}
 use lib.ListN.{length, getD, take, drop, replicate, length-drop, take-append-drop}
 use lib.Seq.{length-take-le}
 use Rattle.causal.specs.Lists.{Mem}
-use Rattle.net.specs.Tests.{all, table}
+use lib.Dec.{ltb}
+use Rattle.net.specs.Tests.{pick, all, table}
+use Rattle.marking.specs.Shift.{gap}
 use Rattle.net.specs.Net.{bond}
 use Rattle.net.specs.declared.Bond.{Bond}
 use Rattle.net.proofs.Tests.{and-i}
@@ -77,3 +79,11 @@ pub bonds-back : (bs : List Bond) (r s : List ℕ)
     → table (length bs) (λ i. bond (getD (map (λ (b : Bond). b .lo) bs ++ r) i 0) (getD (map (λ (b : Bond). b .hi) bs ++ s) i 0)) ≡ bs
 bonds-back [] r s = refl
 bonds-back (b ∷ bs) r s = let rest = bonds-back bs r s in λ i. b ∷ rest i
+
+-- reading a list with a gap
+pub gap-read : {X : Type 0} (l : List X) (d : X) (k i n : ℕ) → n ≡ pick (ltb i k) i (i + 1) → getD l n d ≡ gap k (λ j. getD l j d) i
+gap-read l d k i n e = ap (λ (m : ℕ). getD l m d) e ∙ go (ltb i k)
+  where
+    go : (b : Bool) → getD l (pick b i (i + 1)) d ≡ pick b (getD l i d) (getD l (i + 1) d)
+    go true = refl
+    go false = refl

@@ -31,25 +31,25 @@ pub record SizedMarking (m : Marking) : Type 0 where
   pub lo : length (m .lo) ≡ maxBonds
   pub hi : length (m .hi) ≡ maxBonds
 
-zero-e : (l : List ℕ) → zeros l ≡ true → (x : ℕ) → Mem x l → x ≡ 0
-zero-e l h x m = eqb-true x 0 (all-e (λ (y : ℕ). eqb y 0) l h x m)
+zero-e : (k : ℕ) (l : List ℕ) → zeroFrom k l ≡ true → (x : ℕ) → Mem x (drop k l) → x ≡ 0
+zero-e k l h x m = eqb-true x 0 (all-e (λ (y : ℕ). eqb y 0) (drop k l) h x m)
 
 -- one array of ends
-ends-back : (f : Bond → ℕ) (g : ℕ → Bond) (l : List ℕ) (k : ℕ) → ((i : ℕ) → f (g i) ≡ getD l i 0) → length l ≡ maxBonds → k ≤ maxBonds → zeros (drop k l) ≡ true
+ends-back : (f : Bond → ℕ) (g : ℕ → Bond) (l : List ℕ) (k : ℕ) → ((i : ℕ) → f (g i) ≡ getD l i 0) → length l ≡ maxBonds → k ≤ maxBonds → zeroFrom k l ≡ true
     → padded maxBonds (map f (table k g)) ≡ l
 ends-back f g l k e size h z =
     let same : map f (table k g) ≡ take k l = map-table f k g ∙ table-cong k (λ i. f (g i)) (λ i. getD l i 0) (λ i _. e i) ∙ table-take k l 0 (rw size h) in
-    rw same (padded-back maxBonds k 0 l size h (zero-e (drop k l) z))
+    rw same (padded-back maxBonds k 0 l size h (zero-e k l z))
 
 pub marking-laid : (n : ℕ) (m : Marking) → SizedMarking m → n ≤ maxBases → inForm n m ≡ true → m ≡ laid (markingOf n m)
 marking-laid n m S few h =
     let count : m .count ≤ maxBonds = leb-true (m .count) maxBonds (and-l _ _ h) in
     let h₁ = and-r (leb (m .count) maxBonds) _ h in
-    let h₂ = and-r (zeros (drop n (m .places))) _ h₁ in
-    let ps = padded-back maxBases n 0 (m .places) (S .places) few (zero-e (drop n (m .places)) (and-l _ _ h₁)) in
+    let h₂ = and-r (zeroFrom (m .count) (m .lo)) _ h₁ in
+    let ps = padded-back maxBases n 0 (m .places) (S .places) few (zero-e n (m .places) (and-r (zeroFrom (m .count) (m .hi)) _ h₂)) in
     let cs = length-table (m .count) (λ i. bond (getD (m .lo) i 0) (getD (m .hi) i 0)) in
-    let ls = ends-back (λ (b : Bond). b .lo) (λ i. bond (getD (m .lo) i 0) (getD (m .hi) i 0)) (m .lo) (m .count) (λ i. refl) (S .lo) count (and-l _ _ h₂) in
-    let hs = ends-back (λ (b : Bond). b .hi) (λ i. bond (getD (m .lo) i 0) (getD (m .hi) i 0)) (m .hi) (m .count) (λ i. refl) (S .hi) count (and-r (zeros (drop (m .count) (m .lo))) _ h₂) in
+    let ls = ends-back (λ (b : Bond). b .lo) (λ i. bond (getD (m .lo) i 0) (getD (m .hi) i 0)) (m .lo) (m .count) (λ i. refl) (S .lo) count (and-l _ _ h₁) in
+    let hs = ends-back (λ (b : Bond). b .hi) (λ i. bond (getD (m .lo) i 0) (getD (m .hi) i 0)) (m .hi) (m .count) (λ i. refl) (S .hi) count (and-l _ _ h₂) in
     λ i. record { places = sym ps i; count = sym cs i; lo = sym ls i; hi = sym hs i }
 
 -- ---- a record

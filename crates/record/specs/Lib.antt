@@ -1,2 +1,3 @@
 -- The session record, and the journal that it holds.
 pub mod Records
+pub mod Changes

@@ -1,5 +1,6 @@
 // Commands on the session record (document 01, commands, record, tally): the record goes in by value and comes out.
-use net::{Key, Transition};
+use net::Key;
+use net::Transition;
 use record::Record;
 
 // A command that can be read.
