@@ -65,3 +65,7 @@ module _ {X Y : Type 0} where
   -- a list mapped is the table of its elements' images
   pub table-map : (g : X → Y) (l : List X) (d : X) → table (length l) (λ i. g (getD l i d)) ≡ map g l
   table-map g l d = sym (map-table g (length l) (λ i. getD l i d)) ∙ ap (map g) (table-list l d)
+
+-- no more elements pass than a table has
+pub count-table : {X : Type 0} (t : X → Bool) (n : ℕ) (f : ℕ → X) → count t (table n f) ≤ n
+count-table t n f = let a = count-le t (table n f) in let b = length-table n f in omega arith

@@ -1,0 +1,5 @@
+-- Laws that the proofs of this crate's functions cite, and the crates above.
+pub mod Padding
+pub mod Shifts
+pub mod Forms
+pub mod Sets

@@ -1,0 +1,48 @@
+-- Laws of lists with zeros after them: a loop that fills a list of zeros, and a list that is zero from k on.
+-- Assumes nothing.
+use mathlib.Core.Path.{_≡_, refl, sym, _∙_, ap}
+use mathlib.Core.Bool.{true}
+use mathlib.Core.List.{List, [], _∷_, _++_}
+use Prim.Native.Nat.{ℕ, zero, suc, _-_, _≤_}
+use native.Mathlib.Omega.{arith}
+use lib.Dec.{eqb}
+use lib.ListN.{length, take, drop, replicate, length-drop, length-append, length-replicate, take-append-drop}
+use lib.Seq.{length-take-le, take-at}
+use borrow.Author.Tests.{eqb-true}
+use Rattle.net.specs.Tests.{all, table}
+use Rattle.net.proofs.Tests.{and-l, and-r}
+use Rattle.net.proofs.Tables.{length-table}
+use Rattle.marking.specs.Form.{padded, zeroFrom}
+
+module _ {X : Type 0} where
+  pub drop-replicate : (i n : ℕ) (x : X) → drop i (replicate n x) ≡ replicate (n - i) x
+  drop-replicate zero n x = let e : n ≡ n - zero = omega arith in ap (λ (k : ℕ). replicate k x) e
+  drop-replicate (suc i) zero x = let e : zero ≡ zero - suc i = omega arith in ap (λ (k : ℕ). replicate k x) e
+  drop-replicate (suc i) (suc n) x = let e : n - i ≡ suc n - suc i = omega arith in drop-replicate i n x ∙ ap (λ (k : ℕ). replicate k x) e
+
+-- the loop that fills zeros ends
+pub fill-padded : (f : ℕ → ℕ) (i k n : ℕ) (l₀ l : List ℕ) → l₀ ≡ replicate n 0 → i ≡ k → l ≡ table i f ++ drop i l₀ → l ≡ padded n (table k f)
+fill-padded f i k n l₀ l z e q =
+    q ∙ ap (λ (r : List ℕ). table i f ++ drop i r) z
+    ∙ ap (λ (r : List ℕ). table i f ++ r) (drop-replicate i n 0 ∙ ap (λ (r : ℕ). replicate (n - r) 0) (sym (length-table i f)))
+    ∙ ap (λ (r : ℕ). padded n (table r f)) e
+
+zeros : (l : List ℕ) → all (λ (x : ℕ). eqb x 0) l ≡ true → l ≡ replicate (length l) 0
+zeros [] h = refl
+zeros (x ∷ l) h =
+    let e : x ≡ 0 = eqb-true x 0 (and-l (eqb x 0) (all (λ (y : ℕ). eqb y 0) l) h) in
+    let q : l ≡ replicate (length l) 0 = zeros l (and-r (eqb x 0) (all (λ (y : ℕ). eqb y 0) l) h) in
+    λ i. e i ∷ q i
+
+-- a list of n that is zero from k on is its first k, padded
+pub zero-padded : (l : List ℕ) (k n : ℕ) → length l ≡ n → k ≤ n → zeroFrom k l ≡ true → l ≡ padded n (take k l)
+zero-padded l k n s h z =
+    let a : length (take k l) ≡ k = length-take-le k l (omega arith) in
+    let b : length (drop k l) ≡ n - length (take k l) = length-drop k l ∙ (omega arith) in
+    sym (take-append-drop k l) ∙ ap (λ (r : List ℕ). take k l ++ r) (zeros (drop k l) z ∙ ap (λ (r : ℕ). replicate r 0) b)
+
+pub length-padded : (l : List ℕ) (n : ℕ) → length l ≤ n → length (padded n l) ≡ n
+length-padded l n h = length-append l (replicate (n - length l) 0) ∙ rw (length-replicate {A = ℕ} (n - length l) 0) (omega arith)
+
+pub take-padded : (l : List ℕ) (n k : ℕ) → length l ≡ k → take k (padded n l) ≡ l
+take-padded l n k e = take-at l (replicate (n - length l) 0) k e

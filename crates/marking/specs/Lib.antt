@@ -1,0 +1,3 @@
+-- A marking as the struct that holds it: its form, its bonds, and lists with an element more or less.
+pub mod Shift
+pub mod Form
