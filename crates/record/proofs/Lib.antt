@@ -2,3 +2,4 @@
 pub mod Lists
 pub mod Forms
 pub mod Sized
+pub mod Changes

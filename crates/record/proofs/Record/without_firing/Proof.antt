@@ -83,9 +83,12 @@ loop-less c = search needs
 loop-again : tie.Need-loop-again Inv-loop μ-loop
 loop-again c =
     let at : tie.At-loop Inv-loop μ-loop = c .before .before .before in
-    let size = ap length (at .loop .inv .2) ∙ length-replicate maxLive noFiring in
-    (search needs, search needs, search needs,
-    fill-turn (gap (at .before .before .args .k) (λ j. getD (at .before .before .args .t1 .firings) j past)) (at .loop .i) _ _ past _ (omega arith) (gap-read (at .before .before .args .t1 .firings) past (at .before .before .args .k) (at .loop .i) _ (c .before .past-gap .ensures .0)) (at .loop .inv .3))
+    let size = ap length (at .loop .inv .2) ∙ length-replicate maxLive noFiring in (
+      search needs,
+      search needs,
+      search needs,
+      fill-turn (gap (at .before .before .args .k) (λ j. getD (at .before .before .args .t1 .firings) j past)) (at .loop .i) _ _ past _ (omega arith) (gap-read (at .before .before .args .t1 .firings) past (at .before .before .args .k) (at .loop .i) _ (c .before .past-gap .ensures .0)) (at .loop .inv .3),
+    )
 
 -- src/lib.rt:64:5
 returns : tie.Need-returns Inv-loop μ-loop
