@@ -52,8 +52,13 @@ unset m = all not m
 abbrev pub isNoFiring : Firing → Bool
 isNoFiring f = eqb (f .transition) 0 && (eqb (f .key .0) 0 && unset (f .moved))
 
+-- no flag of a live firing is set from the number of bases on
+abbrev pub usedInForm : ℕ → Record → Bool
+usedInForm n r = all (λ (f : Firing). unset (drop n (f .moved))) (take (r .live) (r .firings))
+
+-- every entry after the live firings is unused
+abbrev pub unusedInForm : Record → Bool
+unusedInForm r = all isNoFiring (drop (r .live) (r .firings))
+
 unfoldable pub recordInForm : ℕ → Record → Bool
-recordInForm n r =
-    inForm n (r .marking)
-    && (leb (r .live) maxLive
-    && (all (λ (f : Firing). unset (drop n (f .moved))) (take (r .live) (r .firings)) && all isNoFiring (drop (r .live) (r .firings))))
+recordInForm n r = inForm n (r .marking) && (leb (r .live) maxLive && (usedInForm n r && unusedInForm r))
