@@ -10,8 +10,11 @@ ghost use Rattle.marking.specs.Form.{zeroFrom, inForm};
 ghost use Rattle.record.specs.Records.{unset, isNoFiring, usedInForm, unusedInForm, recordInForm};
 ghost use Rattle.form.specs.Keys.{liveKeys, climbs};
 use marking::Marking;
-use net::{MAX_BASES, MAX_BONDS, MAX_LIVE};
-use record::{Firing, Record};
+use net::MAX_BASES;
+use net::MAX_BONDS;
+use net::MAX_LIVE;
+use record::Firing;
+use record::Record;
 
 // Nothing but zeros from k on.
 pub fn zero_from(a: &[u8], k: usize) -> bool

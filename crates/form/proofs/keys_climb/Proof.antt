@@ -43,9 +43,12 @@ loop-less c = search needs
 -- src/lib.rt:120:5
 loop-again : tie.Need-loop-again Inv-loop μ-loop
 loop-again c =
-    let at : tie.At-loop Inv-loop μ-loop = c .before .before in
-    (search needs, search needs, search needs,
-    climb-turn (λ j. getD (at .before .args .t1 .firings) j past .key .0) (at .before .args .t1 .live) (at .loop .i) (at .loop .last) _ (at .loop .ok) (omega arith) (at .loop .inv .3))
+    let at : tie.At-loop Inv-loop μ-loop = c .before .before in (
+      search needs,
+      search needs,
+      search needs,
+      climb-turn (λ j. getD (at .before .args .t1 .firings) j past .key .0) (at .before .args .t1 .live) (at .loop .i) (at .loop .last) _ (at .loop .ok) (omega arith) (at .loop .inv .3),
+    )
 
 -- src/lib.rt:112:1
 returns : tie.Need-returns Inv-loop μ-loop

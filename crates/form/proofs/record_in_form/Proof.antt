@@ -25,7 +25,7 @@ too-many n r h = sym (ap (λ (b : Bool). inForm n (r .marking) && (b && (usedInF
 
 -- src/lib.rt:100:9
 returns : tie.Need-returns
-returns c = too-many (c .before .before .args .n) (c .before .before .args .t1) (c .if1 .taken)
+returns c = too-many (c .before .before .args .n) (c .before .before .args .r) (c .if1 .taken)
 
 -- src/lib.rt:102:9
 marking-in-form-requires : tie.Need-marking-in-form-requires

@@ -49,9 +49,10 @@ loop-less c = search needs
 -- src/lib.rt:85:5
 loop-again : tie.Need-loop-again Inv-loop μ-loop
 loop-again c =
-    let at : tie.At-loop Inv-loop μ-loop = c .before .before .before in
-    (search needs,
-    rest-turn isNoFiring (at .before .args .t1 .firings) past (at .loop .i) _ (at .loop .ok) (omega arith) (at .loop .inv .1) ∙ ap (λ (b : Bool). (at .loop .ok && b) && all isNoFiring (drop (at .loop .i + 1) (at .before .args .t1 .firings))) (sym (c .is-no-firing .ensures)))
+    let at : tie.At-loop Inv-loop μ-loop = c .before .before .before in (
+      search needs,
+      rest-turn isNoFiring (at .before .args .t1 .firings) past (at .loop .i) _ (at .loop .ok) (omega arith) (at .loop .inv .1) ∙ ap (λ (b : Bool). (at .loop .ok && b) && all isNoFiring (drop (at .loop .i + 1) (at .before .args .t1 .firings))) (sym (c .is-no-firing .ensures)),
+    )
 
 -- src/lib.rt:80:1
 returns : tie.Need-returns Inv-loop μ-loop

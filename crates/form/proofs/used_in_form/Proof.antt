@@ -50,9 +50,13 @@ loop-less c = search needs
 -- src/lib.rt:70:5
 loop-again : tie.Need-loop-again Inv-loop μ-loop
 loop-again c =
-    let at : tie.At-loop Inv-loop μ-loop = c .before .before .before .before in
-    (search needs, search needs, search needs, search needs,
-    ap (λ (b : Bool). at .loop .ok && b) (c .unset-from .ensures) ∙ taken-turn (λ (f : Firing). unset (drop (at .before .args .n) (f .moved))) (at .before .args .t1 .firings) past (at .loop .i) (at .loop .ok) (omega arith) (at .loop .inv .4))
+    let at : tie.At-loop Inv-loop μ-loop = c .before .before .before .before in (
+      search needs,
+      search needs,
+      search needs,
+      search needs,
+      ap (λ (b : Bool). at .loop .ok && b) (c .unset-from .ensures) ∙ taken-turn (λ (f : Firing). unset (drop (at .before .args .n) (f .moved))) (at .before .args .t1 .firings) past (at .loop .i) (at .loop .ok) (omega arith) (at .loop .inv .4),
+    )
 
 -- src/lib.rt:63:1
 returns : tie.Need-returns Inv-loop μ-loop
