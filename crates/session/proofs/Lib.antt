@@ -1,3 +1,4 @@
 -- Laws of commands on a record.
+pub mod Decoding
 pub mod Fits
 pub mod Steps

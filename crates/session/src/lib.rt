@@ -1,4 +1,8 @@
 // Commands on the session record (document 01, commands, record, tally): the record goes in by value and comes out.
+ghost use mathlib.Core.Path.{_≡_};
+ghost use Rattle.session.specs.Commands.{decodedOf};
+use format::byte_at;
+use format::word_at;
 use net::Key;
 use net::Transition;
 use record::Record;
@@ -39,4 +43,25 @@ pub enum StartAnswer {
 pub struct Start {
     pub answer: StartAnswer,
     pub session: Record,
+}
+
+// What the first three bytes say. Nothing after them is read; bytes that are not there read as 0.
+pub fn decode(bytes: &[u8]) -> Decoded
+    ensures { λ r. ⌜ r ≡ decodedOf (now (bytes .entry)) ⌝ }
+{
+    let kind = byte_at(bytes, 0);
+    let number = word_at(bytes, 1) as u16;
+    if kind == 1 {
+        return Decoded::Given(Command::Fire(Transition(number)));
+    }
+    if kind == 3 {
+        return Decoded::Given(Command::Undo(Key(number)));
+    }
+    if kind != 2 {
+        return Decoded::Unreadable;
+    }
+    if number != 0 {
+        return Decoded::Unreadable;
+    }
+    Decoded::Given(Command::UndoLast)
 }
