@@ -12,7 +12,7 @@ use borrow.Author.Tests.{eqb-true}
 use Rattle.net.specs.Tests.{all, table}
 use Rattle.net.proofs.Tests.{and-l, and-r}
 use Rattle.net.proofs.Tables.{length-table}
-use Rattle.marking.specs.Form.{padded, zeroFrom}
+use Rattle.marking.specs.Form.{padWith, padded, zeroFrom}
 
 module _ {X : Type 0} where
   pub drop-replicate : (i n : ℕ) (x : X) → drop i (replicate n x) ≡ replicate (n - i) x
@@ -20,12 +20,12 @@ module _ {X : Type 0} where
   drop-replicate (suc i) zero x = let e : zero ≡ zero - suc i = omega arith in ap (λ (k : ℕ). replicate k x) e
   drop-replicate (suc i) (suc n) x = let e : n - i ≡ suc n - suc i = omega arith in drop-replicate i n x ∙ ap (λ (k : ℕ). replicate k x) e
 
--- the loop that fills zeros ends
-pub fill-padded : (f : ℕ → ℕ) (i k n : ℕ) (l₀ l : List ℕ) → l₀ ≡ replicate n 0 → i ≡ k → l ≡ table i f ++ drop i l₀ → l ≡ padded n (table k f)
-fill-padded f i k n l₀ l z e q =
-    q ∙ ap (λ (r : List ℕ). table i f ++ drop i r) z
-    ∙ ap (λ (r : List ℕ). table i f ++ r) (drop-replicate i n 0 ∙ ap (λ (r : ℕ). replicate (n - r) 0) (sym (length-table i f)))
-    ∙ ap (λ (r : ℕ). padded n (table r f)) e
+  -- the loop that fills a list of d ends
+  pub fill-padded : (f : ℕ → X) (d : X) (i k n : ℕ) (l₀ l : List X) → l₀ ≡ replicate n d → i ≡ k → l ≡ table i f ++ drop i l₀ → l ≡ padWith d n (table k f)
+  fill-padded f d i k n l₀ l z e q =
+      q ∙ ap (λ (r : List X). table i f ++ drop i r) z
+      ∙ ap (λ (r : List X). table i f ++ r) (drop-replicate i n d ∙ ap (λ (r : ℕ). replicate (n - r) d) (sym (length-table i f)))
+      ∙ ap (λ (r : ℕ). padWith d n (table r f)) e
 
 zeros : (l : List ℕ) → all (λ (x : ℕ). eqb x 0) l ≡ true → l ≡ replicate (length l) 0
 zeros [] h = refl

@@ -1,7 +1,7 @@
 -- A marking as the struct that holds it (01, the record: places, couplings in ascending order, unused entries 0).
 -- Definitions only. n is the number of bases.
 use mathlib.Core.Path.{_≡_}
-use mathlib.Core.Bool.{Bool, _&&_}
+use mathlib.Core.Bool.{Bool, false, _&&_}
 use mathlib.Core.List.{List, _++_, map}
 use Prim.Native.Nat.{ℕ, _-_, _≤_}
 use lib.Dec.{eqb, leb}
@@ -14,9 +14,18 @@ use Rattle.net.specs.Net.{Marking as NetMarking, sameBond, lessBond}
 use Rattle.bonds.specs.Ends.{bondsIn}
 use Rattle.marking.specs.declared.Marking.{Marking}
 
--- a list with zeros after it, n elements in all
+module _ {X : Type 0} where
+  -- a list with d after it, n elements in all
+  abbrev pub padWith : X → ℕ → List X → List X
+  padWith d n l = l ++ replicate (n - length l) d
+
+-- with zeros after it
 abbrev pub padded : ℕ → List ℕ → List ℕ
-padded n l = l ++ replicate (n - length l) 0
+padded n l = padWith 0 n l
+
+-- A set of bases as the flags that hold it: no base above is in it.
+abbrev pub flags : List Bool → List Bool
+flags l = padWith false maxBases l
 
 -- the first and the second ends
 abbrev pub los : List Bond → List ℕ

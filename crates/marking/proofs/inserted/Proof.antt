@@ -38,7 +38,7 @@ loop-again : tie.Need-loop-again Inv-loop μ-loop
 loop-again c = (search needs, search needs, search needs, fill-turn _ (c .before .before .loop .j) _ _ 0 _ (omega arith) (c .at-slot .ensures) (c .before .before .loop .inv .3))
 
 returns : tie.Need-returns Inv-loop μ-loop
-returns c = fill-padded _ (c .before .loop .j) (c .before .before .before .args .n + 1) 2016 _ _ (c .before .loop .inv .1) (omega arith) (c .before .loop .inv .3)
+returns c = fill-padded _ 0 (c .before .loop .j) (c .before .before .before .args .n + 1) 2016 _ _ (c .before .loop .inv .1) (omega arith) (c .before .loop .inv .3)
 
 pub inserted-spec : {M : Type 1} → statement M
 inserted-spec =

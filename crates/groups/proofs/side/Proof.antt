@@ -1,0 +1,13 @@
+-- `groups::side` meets its contract.
+-- Assumes nothing.
+use Rattle.groups.proofs.side.Tie as tie
+use Rattle.groups.proofs.side.Statement.{statement}
+
+returns : tie.Need-returns
+returns c = rw (c .if1 .taken)
+
+returns-2 : tie.Need-returns-2
+returns-2 c = rw (c .if1 .left)
+
+pub side-spec : {M : Type 1} → statement M
+side-spec = tie.close (tie.spec returns returns-2)
