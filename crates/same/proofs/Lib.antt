@@ -1,0 +1,3 @@
+-- Laws of lists compared element by element.
+pub mod Lists
+pub mod Markings

@@ -1,0 +1,1 @@
+-- No definition of its own: sameMarking and sameList are those of the crate net.
