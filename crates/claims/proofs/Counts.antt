@@ -25,8 +25,8 @@ use Rattle.format.specs.NetOf.{netOf}
 use Rattle.sheet.specs.Checks.{sheetChecks}
 use Rattle.tally.specs.Counts.{oneMore, countedOf}
 use Rattle.tally.specs.declared.Tally.{Tally}
-use Rattle.record.specs.Records.{recordOf}
-use Rattle.record.specs.declared.Record.{Record}
+use Rattle.session.specs.Records.{recordOf}
+use Rattle.session.specs.declared.Record.{Record}
 use Rattle.session.specs.Commands.{answerOf, countOf, outcomeOf, outcomeFor, commandOf, freshOf}
 use Rattle.session.specs.Runs.{Session, runOf}
 use Rattle.session.specs.declared.Outcome.{Outcome}

@@ -18,7 +18,7 @@ use Rattle.format.specs.Parts.{basesOf}
 use Rattle.format.specs.NetOf.{netOf}
 use Rattle.sheet.specs.Checks.{sheetChecks}
 use Rattle.tally.specs.declared.Tally.{Tally}
-use Rattle.record.specs.Records.{recordOf}
+use Rattle.session.specs.Records.{recordOf}
 use Rattle.session.specs.Runs.{answered}
 use Rattle.session.proofs.Steps.{follows-fresh}
 use Rattle.claims.specs.Demands.{journalAfter, ForwardRun, Demand3}

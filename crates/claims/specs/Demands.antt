@@ -19,8 +19,8 @@ use Rattle.format.specs.NetOf.{netOf}
 use Rattle.sheet.specs.Checks.{sheetChecks}
 use Rattle.tally.specs.Counts.{oneMore}
 use Rattle.tally.specs.declared.Tally.{Tally}
-use Rattle.record.specs.Records.{recordOf}
-use Rattle.record.specs.declared.Record.{Record}
+use Rattle.session.specs.Records.{recordOf}
+use Rattle.session.specs.declared.Record.{Record}
 use Rattle.session.specs.Soundness.{heldIn}
 use Rattle.session.specs.Commands.{freshOf, refusal, answerNumber, outcomeOf, commandChecks, Result, commandOf}
 use Rattle.session.specs.Runs.{answered, Session, runOf}

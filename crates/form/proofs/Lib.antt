@@ -1,2 +1,4 @@
--- Laws of loops that gather a test over the rest of a list.
+-- Laws of loops over a list: a test gathered, and two lists compared.
 pub mod Rest
+pub mod Lists
+pub mod Markings

@@ -6,12 +6,8 @@ use mathlib.Core.List.{List, [], _∷_, _++_}
 use Prim.Native.Nat.{ℕ, suc, _+_, _<_, _≤_}
 use native.Mathlib.Numerals.{add-one}
 use lib.ListN.{length, getD, drop, take, drop-of-length-le}
-use lib.Dec.{ltb}
-use lib.Seq.{drop-cons, take-suc}
-use Rattle.net.specs.Tests.{all, table}
-use Rattle.net.proofs.Tests.{all-append}
-use Rattle.net.proofs.Tables.{length-table, getD-table}
-use Rattle.form.specs.Keys.{climbs}
+use lib.Seq.{drop-cons}
+use Rattle.net.specs.Tests.{all}
 
 module _ {X : Type 0} (t : X → Bool) where
   -- one turn: the element at i is gathered
@@ -23,22 +19,3 @@ module _ {X : Type 0} (t : X → Bool) where
   -- the end: nothing is left
   pub rest-end : (l : List X) (i : ℕ) (w ok : Bool) → length l ≤ i → w ≡ (ok && all t (drop i l)) → ok ≡ w
   rest-end l i w ok h e = sym (e ∙ ap (λ (k : List X). ok && all t k) (drop-of-length-le l h) ∙ and-true ok)
-
-  -- one turn of a loop that gathers from the front
-  pub taken-turn : (l : List X) (d : X) (i : ℕ) (ok : Bool) → i < length l → ok ≡ all t (take i l) → (ok && t (getD l i d)) ≡ all t (take (i + 1) l)
-  taken-turn l d i ok h e = sym (ap (λ (n : ℕ). all t (take n l)) (add-one i) ∙ ap (all t) (take-suc l i d h) ∙ all-append t (take i l) (getD l i d ∷ [])
-      ∙ ap (λ (b : Bool). all t (take i l) && b) (and-true (t (getD l i d))) ∙ ap (λ (b : Bool). b && t (getD l i d)) (sym e))
-
--- keys: one turn, and the end
-pub climb-turn : (f : ℕ → ℕ) (n i last : ℕ) (w ok : Bool) → i < n → w ≡ (ok && climbs last (drop i (table n f))) → w ≡ ((ok && ltb last (f i)) && climbs (f i) (drop (i + 1) (table n f)))
-climb-turn f n i last w ok h e =
-    let size : i < length (table n f) = rw length-table h in
-    e ∙ ap (λ (k : List ℕ). ok && climbs last k) (drop-cons (table n f) i 0 size)
-    ∙ ap (λ (x : ℕ). ok && (ltb last x && climbs x (drop (suc i) (table n f)))) (getD-table n f i 0 h)
-    ∙ sym (and-assoc ok (ltb last (f i)) (climbs (f i) (drop (suc i) (table n f))))
-    ∙ ap (λ (k : ℕ). (ok && ltb last (f i)) && climbs (f i) (drop k (table n f))) (sym (add-one i))
-
-pub climb-end : (f : ℕ → ℕ) (n i last : ℕ) (w ok : Bool) → n ≤ i → w ≡ (ok && climbs last (drop i (table n f))) → ok ≡ w
-climb-end f n i last w ok h e =
-    let size : length (table n f) ≤ i = rw length-table h in
-    sym (e ∙ ap (λ (k : List ℕ). ok && climbs last k) (drop-of-length-le (table n f) size) ∙ and-true ok)

@@ -1,2 +1,1 @@
--- The live keys of a record. The form itself is defined in the crates marking, record and net.
-pub mod Keys
+-- No definition of its own: a marking's form is the crate marking's, the comparisons are net's.

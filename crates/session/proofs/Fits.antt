@@ -19,7 +19,7 @@ use Rattle.net.proofs.Tables.{length-table}
 use Rattle.net.proofs.Journal.{Held}
 use Rattle.net.proofs.Totals.{held-totals}
 use Rattle.net.proofs.Pairs.{few-bonds}
-use Rattle.record.proofs.Forms.{Fits}
+use Rattle.session.proofs.Forms.{Fits}
 
 -- each line of a run has a flag for each base
 run-flags : (net : Net) (ls : List LiveLine) (s z : Marking) → Run (Fires net) s ls z → (l : LiveLine) → Mem l ls → length (l .moved) ≡ net .bases

@@ -1,4 +1,6 @@
 -- Laws of commands on a record.
 pub mod Decoding
+pub mod Forms
+pub mod Sized
 pub mod Fits
 pub mod Steps

@@ -22,9 +22,9 @@ use Rattle.format.specs.Parts.{basesOf}
 use Rattle.format.specs.NetOf.{netOf}
 use Rattle.sheet.specs.Checks.{sheetChecks}
 use Rattle.tally.specs.declared.Tally.{Tally}
-use Rattle.record.specs.Records.{journalOf, recordOf, recordInForm}
-use Rattle.record.specs.declared.Record.{Record}
-use Rattle.record.proofs.Forms.{Fits, journal-back, record-form}
+use Rattle.session.specs.Records.{journalOf, recordOf, recordInForm}
+use Rattle.session.specs.declared.Record.{Record}
+use Rattle.session.proofs.Forms.{Fits, journal-back, record-form}
 use Rattle.session.specs.Soundness.{heldIn, soundFor}
 use Rattle.session.specs.Commands.{refusal, answerOf, keyOf, outcomeOf, acceptOf, performOf, commandChecks, Result, outcomeFor, commandOf, freshOf}
 use Rattle.session.specs.Runs.{Answered, answered, Session, runOf}

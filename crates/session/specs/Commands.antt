@@ -4,8 +4,6 @@ use mathlib.Core.Bool.{Bool, not}
 use mathlib.Core.List.{List, [], _∷_, _++_}
 use Prim.Native.Nat.{ℕ}
 use lib.Dec.{eqb}
-use lib.ListN.{replicate}
-use Rattle.net.specs.Limits.{maxLive}
 use Rattle.net.specs.Tests.{pick}
 use Rattle.net.specs.Checks.{Check, check, clear, first}
 use Rattle.net.specs.Journal as J
@@ -15,8 +13,8 @@ use Rattle.format.specs.NetOf.{netOf}
 use Rattle.sheet.specs.Checks.{sheetChecks}
 use Rattle.tally.specs.Counts.{countedOf}
 use Rattle.tally.specs.declared.Tally.{Tally}
-use Rattle.record.specs.Records.{noFiring, recordOf}
-use Rattle.record.specs.declared.Record.{Record}
+use Rattle.session.specs.Records.{recordOf}
+use Rattle.session.specs.declared.Record.{Record}
 use Rattle.session.specs.Soundness.{heldIn, soundFor}
 use Rattle.session.specs.declared.Command.{Command}
 use Rattle.session.specs.declared.Command.the-variants.{Fire, UndoLast, Undo}

@@ -5,7 +5,7 @@ use Prim.Native.Nat.{ℕ}
 use Rattle.net.specs.Journal as J
 use Rattle.net.specs.declared.Key.{Key}
 use Rattle.tally.specs.declared.Tally.{Tally}
-use Rattle.record.specs.declared.Record.{Record}
+use Rattle.session.specs.declared.Record.{Record}
 use Rattle.session.specs.Commands.{answerOf, keyOf, Result, commandOf}
 use Rattle.session.specs.declared.Answer.{Answer}
 

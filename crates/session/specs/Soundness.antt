@@ -7,8 +7,8 @@ use Rattle.net.specs.Journal.{Journal}
 use Rattle.net.specs.History.{sound}
 use Rattle.format.specs.Parts.{basesOf}
 use Rattle.format.specs.NetOf.{netOf}
-use Rattle.record.specs.Records.{journalOf, recordInForm}
-use Rattle.record.specs.declared.Record.{Record}
+use Rattle.session.specs.Records.{journalOf, recordInForm}
+use Rattle.session.specs.declared.Record.{Record}
 
 -- the journal that a record holds, on a sheet
 abbrev pub heldIn : List ℕ → Record → Journal

@@ -1,11 +1,20 @@
 // Commands on the session record (document 01, commands, record, tally): the record goes in by value and comes out.
 ghost use mathlib.Core.Path.{_≡_};
 ghost use Rattle.session.specs.Commands.{decodedOf};
+use firings::Firing;
 use format::byte_at;
 use format::word_at;
+use marking::Marking;
 use net::Key;
+use net::MAX_LIVE;
 use net::Transition;
-use record::Record;
+
+// The session record: a marking, and the live firings in strictly ascending keys. Unused entries hold 0.
+pub struct Record {
+    pub marking: Marking,
+    pub live: usize,
+    pub firings: [Firing; MAX_LIVE],
+}
 
 // A command that can be read.
 pub enum Command {

@@ -1,0 +1,4 @@
+-- Laws of live firings in an array.
+pub mod Lists
+pub mod Rest
+pub mod Changes

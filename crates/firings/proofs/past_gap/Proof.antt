@@ -1,0 +1,26 @@
+use native.Mathlib.Omega.{arith}
+use mathlib.Core.Path.{_≡_, refl, ap, sym, _∙_}
+use Prim.Native.Nat.{ℕ, suc, _+_, _-_, _*_, _<_, _≤_}
+use lib.ListN.{length, getD, take, drop, set}
+use mathlib.Core.List.{List, [], _∷_, _++_}
+use borrow.Author.Tests.{lt-ltb, le-ltb}
+use borrow.Author.Needs.{needs}
+use Rattle.firings.proofs.past_gap.Statement.{statement}
+use Rattle.firings.proofs.past_gap.Tie as tie
+use Rattle.firings.proofs.past_gap.Reads as reads
+use Rattle.firings.proofs.past_gap.Lts as lts
+
+-- src/lib.rt:46:27
+add-result : tie.Need-add-result
+add-result c = search needs
+
+-- src/lib.rt:42:1
+returns : tie.Need-returns
+returns c = (rw (lt-ltb _ _ (c .if1 .taken)), omega arith)
+
+-- src/lib.rt:42:1
+returns-2 : tie.Need-returns-2
+returns-2 c = (rw (le-ltb _ _ (c .if1 .left)), omega arith)
+
+pub past-gap-spec : {M : Type 1} → statement M
+past-gap-spec = tie.close (tie.spec add-result returns returns-2)

@@ -1,0 +1,73 @@
+use borrow.Author.Needs.{needs}
+use native.Mathlib.Omega.{arith}
+use mathlib.Core.Path.{_≡_, refl, ap, sym, _∙_}
+use Prim.Native.Nat.{ℕ, suc, _+_, _-_, _*_, _<_, _≤_}
+use lib.ListN.{length, getD, take, drop, set}
+use mathlib.Core.List.{List, [], _∷_, _++_}
+use mathlib.Core.Bool.{Bool, _&&_}
+use Rattle.net.specs.Limits.{maxLive}
+use Rattle.firings.specs.Lines.{past}
+use Rattle.firings.specs.Form.{isNoFiring, unusedInForm}
+use Rattle.form.proofs.Rest.{rest-turn, rest-end}
+use Rattle.firings.proofs.unused_in_form.Statement.{statement}
+use Rattle.firings.proofs.unused_in_form.Tie as tie
+use Rattle.firings.proofs.unused_in_form.Reads as reads
+use Rattle.firings.proofs.unused_in_form.Lts as lts
+use Rattle.firings.proofs.is_no_firing.Reads as is-no-firing-reads
+
+abbrev Inv-loop : tie.InvT-loop
+Inv-loop live firings ok₀ i₀ ok i = (length firings ≡ maxLive) × (unusedInForm live firings ≡ (ok && unusedInForm i firings))
+
+abbrev μ-loop : tie.MeasureT-loop
+μ-loop live firings ok₀ i₀ ok i = maxLive - i
+
+-- src/lib.rt:104:5
+loop-holds : tie.Need-loop-holds Inv-loop μ-loop
+loop-holds c = (search needs, refl)
+
+-- src/lib.rt:105:17
+mul-f : tie.Need-mul-f Inv-loop μ-loop
+mul-f c = search needs
+
+-- src/lib.rt:105:17
+array-copy-out-f : tie.Need-array-copy-out-f Inv-loop μ-loop
+array-copy-out-f c = search needs
+
+-- src/lib.rt:106:19
+is-no-firing-requires : tie.Need-is-no-firing-requires Inv-loop μ-loop
+is-no-firing-requires c κs = search needs
+
+-- src/lib.rt:107:9
+add-i : tie.Need-add-i Inv-loop μ-loop
+add-i c = search needs
+
+-- src/lib.rt:104:5
+loop-less : tie.Need-loop-less Inv-loop μ-loop
+loop-less c = search needs
+
+-- src/lib.rt:104:5
+loop-again : tie.Need-loop-again Inv-loop μ-loop
+loop-again c =
+    let at : tie.At-loop Inv-loop μ-loop = c .before .before .before in (
+      search needs,
+      rest-turn isNoFiring (at .before .args .t1) past (at .loop .i) _ (at .loop .ok) (omega arith) (at .loop .inv .1) ∙ ap (λ (b : Bool). (at .loop .ok && b) && unusedInForm (at .loop .i + 1) (at .before .args .t1)) (sym (c .is-no-firing .ensures)),
+    )
+
+-- src/lib.rt:99:1
+returns : tie.Need-returns Inv-loop μ-loop
+returns c = rest-end isNoFiring (c .before .before .args .t1) (c .before .loop .i) _ _ (omega arith) (c .before .loop .inv .1)
+
+pub unused-in-form-spec : {M : Type 1} → statement M
+unused-in-form-spec =
+    tie.close
+    (tie.spec
+    Inv-loop
+    μ-loop
+    loop-holds
+    mul-f
+    array-copy-out-f
+    is-no-firing-requires
+    add-i
+    loop-less
+    loop-again
+    returns)

@@ -1,0 +1,78 @@
+use borrow.Author.Needs.{needs}
+use native.Mathlib.Omega.{arith}
+use mathlib.Core.Path.{_≡_, refl, ap, sym, _∙_}
+use Prim.Native.Nat.{ℕ, suc, _+_, _-_, _*_, _<_, _≤_}
+use lib.ListN.{length, getD, take, drop, set}
+use mathlib.Core.List.{List, [], _∷_, _++_}
+use mathlib.Core.Bool.{Bool, _&&_}
+use Rattle.net.specs.Limits.{maxLive}
+use Rattle.firings.specs.Lines.{past}
+use Rattle.firings.specs.Form.{unset, usedInForm}
+use Rattle.firings.specs.declared.Firing.{Firing}
+use Rattle.firings.proofs.Rest.{taken-turn}
+use Rattle.firings.proofs.used_in_form.Statement.{statement}
+use Rattle.firings.proofs.used_in_form.Tie as tie
+use Rattle.firings.proofs.used_in_form.Reads as reads
+use Rattle.firings.proofs.used_in_form.Lts as lts
+use Rattle.firings.proofs.unset_from.Reads as unset-from-reads
+
+abbrev Inv-loop : tie.InvT-loop
+Inv-loop live n firings ok₀ i₀ ok i = (i ≤ live) × (live ≤ maxLive) × (length firings ≡ maxLive) × (ok ≡ usedInForm n i firings)
+
+abbrev μ-loop : tie.MeasureT-loop
+μ-loop live n firings ok₀ i₀ ok i = live - i
+
+-- src/lib.rt:89:5
+loop-holds : tie.Need-loop-holds Inv-loop μ-loop
+loop-holds c = (search needs, search needs, search needs, refl)
+
+-- src/lib.rt:90:17
+mul-f : tie.Need-mul-f Inv-loop μ-loop
+mul-f c = search needs
+
+-- src/lib.rt:90:17
+array-copy-out-f : tie.Need-array-copy-out-f Inv-loop μ-loop
+array-copy-out-f c = search needs
+
+-- src/lib.rt:92:19
+unset-from-requires : tie.Need-unset-from-requires Inv-loop μ-loop
+unset-from-requires c κs = search needs
+
+-- src/lib.rt:93:9
+add-i : tie.Need-add-i Inv-loop μ-loop
+add-i c = search needs
+
+-- src/lib.rt:89:5
+loop-less : tie.Need-loop-less Inv-loop μ-loop
+loop-less c = search needs
+
+-- src/lib.rt:89:5
+loop-again : tie.Need-loop-again Inv-loop μ-loop
+loop-again c =
+    let at : tie.At-loop Inv-loop μ-loop = c .before .before .before .before in (
+      search needs,
+      search needs,
+      search needs,
+      ap (λ (b : Bool). at .loop .ok && b) (c .unset-from .ensures) ∙ taken-turn (λ (f : Firing). unset (drop (at .before .args .n) (f .moved))) (at .before .args .t1) past (at .loop .i) (at .loop .ok) (omega arith) (at .loop .inv .3),
+    )
+
+-- src/lib.rt:83:1
+returns : tie.Need-returns Inv-loop μ-loop
+returns c =
+    let all-read : c .before .loop .i ≡ c .before .before .args .live = omega arith in
+    c .before .loop .inv .3 ∙ ap (λ (k : ℕ). usedInForm (c .before .before .args .n) k (c .before .before .args .t1)) all-read
+
+pub used-in-form-spec : {M : Type 1} → statement M
+used-in-form-spec =
+    tie.close
+    (tie.spec
+    Inv-loop
+    μ-loop
+    loop-holds
+    mul-f
+    array-copy-out-f
+    unset-from-requires
+    add-i
+    loop-less
+    loop-again
+    returns)

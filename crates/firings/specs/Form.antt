@@ -1,0 +1,34 @@
+-- The form of live firings in an array (01, commands, record, tally): unused entries hold 0, keys strictly ascend.
+-- Definitions only. n is the number of bases; the first k entries are live.
+use mathlib.Core.Bool.{Bool, true, not, _&&_}
+use mathlib.Core.List.{List, [], _∷_}
+use Prim.Native.Nat.{ℕ}
+use lib.Dec.{eqb, ltb}
+use lib.ListN.{getD, take, drop}
+use Rattle.net.specs.Tests.{all, table}
+use Rattle.firings.specs.Lines.{past}
+use Rattle.firings.specs.declared.Firing.{Firing}
+
+-- no flag is set
+abbrev pub unset : List Bool → Bool
+unset m = all not m
+
+-- an unused entry
+abbrev pub isNoFiring : Firing → Bool
+isNoFiring f = eqb (f .transition) 0 && (eqb (f .key .0) 0 && unset (f .moved))
+
+-- no flag of a live firing is set from the number of bases on
+abbrev pub usedInForm : ℕ → ℕ → List Firing → Bool
+usedInForm n k fs = all (λ (f : Firing). unset (drop n (f .moved))) (take k fs)
+
+-- every entry after the live firings is unused
+abbrev pub unusedInForm : ℕ → List Firing → Bool
+unusedInForm k fs = all isNoFiring (drop k fs)
+
+abbrev pub liveKeys : ℕ → List Firing → List ℕ
+liveKeys k fs = table k (λ i. getD fs i past .key .0)
+
+-- each is above the one before, the first above `last`
+abbrev pub climbs : ℕ → List ℕ → Bool
+climbs last [] = true
+climbs last (k ∷ ks) = ltb last k && climbs k ks

@@ -1,0 +1,142 @@
+// The live firings of a session record, in an array by value: one taken out, their form, their keys.
+// Entries after the live ones hold 0.
+ghost use mathlib.Core.Path.{_≡_};
+ghost use mathlib.Core.Bool.{Bool, Bool·beq};
+ghost use Prim.Native.Nat.{_+_, _<_, _≤_};
+ghost use lib.Dec.{ltb};
+ghost use lib.ListN.{drop, take};
+ghost use Rattle.net.specs.Limits.{maxBases, maxLive};
+ghost use Rattle.net.specs.Tests.{pick, sameList};
+ghost use Rattle.firings.specs.Lines.{noFiring, closedUp};
+ghost use Rattle.firings.specs.Form.{unset, isNoFiring, usedInForm, unusedInForm, liveKeys, climbs};
+use net::Key;
+use net::MAX_BASES;
+use net::MAX_LIVE;
+
+// A live firing. The transition's number is kept in one byte.
+pub struct Firing {
+    pub transition: u8,
+    pub key: Key,
+    pub moved: [bool; MAX_BASES],
+}
+
+// An unused entry.
+pub fn no_firing() -> Firing
+    ensures { λ r. ⌜ r ≡ noFiring ⌝ }
+{
+    Firing {
+        transition: 0,
+        key: Key(0),
+        moved: [false; MAX_BASES],
+    }
+}
+
+// The entry that comes to stand at j when the one at i is gone.
+fn past_gap(i: usize, j: usize) -> usize
+    requires { ⌜ j < maxLive ⌝ }
+    ensures { λ r. ⌜ r ≡ pick (ltb j i) j (j + 1) ⌝ }
+    ensures { λ r. ⌜ r ≤ j + 1 ⌝ }
+{
+    if j < i { j } else { j + 1 }
+}
+
+// The firings without the live one at i: the later ones close up. The callers have found i among the live ones.
+pub fn closed_up(firings: [Firing; MAX_LIVE], live: usize, i: usize) -> [Firing; MAX_LIVE]
+    requires { ⌜ (i < live) × (live ≤ maxLive) ⌝ }
+    ensures { λ r. ⌜ r ≡ closedUp live i firings ⌝ }
+{
+    let left = live - 1;
+    let mut next = [no_firing(); MAX_LIVE];
+    let mut j = 0;
+    while j < left {
+        let from = past_gap(i, j);
+        let f = firings[from];
+        next[j] = f;
+        j += 1;
+    }
+    next
+}
+
+// No flag is set from k on.
+pub fn unset_from(flags: [bool; MAX_BASES], k: usize) -> bool
+    ensures { λ r. ⌜ r ≡ unset (drop k flags) ⌝ }
+{
+    let mut ok = true;
+    let mut i = k;
+    while i < MAX_BASES {
+        ok = ok & !flags[i];
+        i += 1;
+    }
+    ok
+}
+
+// Whether an entry is unused.
+pub fn is_no_firing(f: Firing) -> bool
+    ensures { λ r. ⌜ r ≡ isNoFiring f ⌝ }
+{
+    let moved = f.moved;
+    let unset = unset_from(moved, 0);
+    (f.transition == 0) & ((f.key.0 == 0) & unset)
+}
+
+// No flag of a live firing is set from n on. The callers have seen that there are no more than the limit, here and below.
+pub fn used_in_form(firings: [Firing; MAX_LIVE], live: usize, n: usize) -> bool
+    requires { ⌜ live ≤ maxLive ⌝ }
+    ensures { λ r. ⌜ r ≡ usedInForm n live firings ⌝ }
+{
+    let mut ok = true;
+    let mut i = 0;
+    while i < live {
+        let f = firings[i];
+        let moved = f.moved;
+        ok = ok & unset_from(moved, n);
+        i += 1;
+    }
+    ok
+}
+
+// Every entry after the live firings is unused.
+pub fn unused_in_form(firings: [Firing; MAX_LIVE], live: usize) -> bool
+    ensures { λ r. ⌜ r ≡ unusedInForm live firings ⌝ }
+{
+    let mut ok = true;
+    let mut i = live;
+    while i < MAX_LIVE {
+        let f = firings[i];
+        ok = ok & is_no_firing(f);
+        i += 1;
+    }
+    ok
+}
+
+// The live keys strictly ascend from 1.
+pub fn keys_climb(firings: [Firing; MAX_LIVE], live: usize) -> bool
+    requires { ⌜ live ≤ maxLive ⌝ }
+    ensures { λ r. ⌜ r ≡ climbs 0 (liveKeys live firings) ⌝ }
+{
+    let mut ok = true;
+    let mut last: u16 = 0;
+    let mut i = 0;
+    while i < live {
+        let f = firings[i];
+        let k = f.key.0;
+        ok = ok & (last < k);
+        last = k;
+        i += 1;
+    }
+    ok
+}
+
+// The first n flags of two sets are the same. Every flag is looked at: no early exit.
+pub fn same_flags(a: [bool; MAX_BASES], b: [bool; MAX_BASES], n: usize) -> bool
+    requires { ⌜ n ≤ maxBases ⌝ }
+    ensures { λ r. ⌜ r ≡ sameList Bool·beq (take n a) (take n b) ⌝ }
+{
+    let mut ok = true;
+    let mut i = 0;
+    while i < n {
+        ok = ok & (a[i] == b[i]);
+        i += 1;
+    }
+    ok
+}

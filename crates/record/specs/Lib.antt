@@ -1,3 +1,0 @@
--- The session record, and the journal that it holds.
-pub mod Records
-pub mod Changes

@@ -1,3 +1,0 @@
--- Laws of lists compared element by element.
-pub mod Lists
-pub mod Markings

@@ -1,1 +1,0 @@
--- No definition of its own: sameMarking and sameList are those of the crate net.

@@ -1,0 +1,81 @@
+-- A journal in the record's form is read back whole, and has the form.
+-- Assumes nothing.
+use mathlib.Core.Path.{_≡_, refl, sym, _∙_, ap}
+use mathlib.Core.Bool.{Bool, true, false, not, _&&_}
+use mathlib.Core.List.{List, [], _∷_, _++_, map}
+use Prim.Native.Nat.{ℕ, _<_, _≤_, _-_}
+use native.Mathlib.Omega.{arith}
+use lib.Dec.{eqb, leb}
+use lib.ListN.{length, getD, take, drop, replicate, length-map}
+use lib.Seq.{take-at, drop-at}
+use borrow.Author.Tests.{le-leb}
+use Rattle.causal.specs.Lists.{Mem}
+use Rattle.net.specs.Limits.{maxBases, maxBonds, maxLive}
+use Rattle.net.specs.Tests.{all, table}
+use Rattle.net.specs.Net as Net
+use Rattle.net.specs.Journal.{LiveLine, Journal}
+use Rattle.net.specs.declared.Bond.{Bond}
+use Rattle.net.proofs.Tests.{and-i, all-i}
+use Rattle.marking.specs.Form.{markingOf, laid, inForm, zeroFrom, padded, los, his}
+use Rattle.firings.specs.Lines.{past, lineOf, noFiring, firingOf}
+use Rattle.firings.specs.Form.{unset, isNoFiring}
+use Rattle.session.specs.Records.{journalOf, recordOf, recordInForm}
+use Rattle.firings.specs.declared.Firing.{Firing}
+use Rattle.session.specs.declared.Record.{Record}
+use Rattle.firings.proofs.Lists.{all-replicate, all-map, table-back, bonds-back}
+
+-- ---- a marking
+
+module _ (n : ℕ) (s : Net.Marking) (size : length (s .places) ≡ n) where
+  pub marking-back : markingOf n (laid s) ≡ s
+  marking-back = λ i. record {
+    places = take-at (s .places) (replicate (maxBases - length (s .places)) 0) n size i;
+    bonds = bonds-back (s .bonds) (replicate (maxBonds - length (map (λ (b : Bond). b .lo) (s .bonds))) 0) (replicate (maxBonds - length (map (λ (b : Bond). b .hi) (s .bonds))) 0) i;
+  }
+
+  pub laid-form : length (s .bonds) ≤ maxBonds → inForm n (laid s) ≡ true
+  laid-form h =
+      rw (
+        le-leb (length (s .bonds)) maxBonds h,
+        drop-at (s .places) (replicate (maxBases - length (s .places)) 0) n size,
+        all-replicate (λ (x : ℕ). eqb x 0) (maxBases - length (s .places)) 0 refl,
+        drop-at (map (λ (b : Bond). b .lo) (s .bonds)) (replicate (maxBonds - length (map (λ (b : Bond). b .lo) (s .bonds))) 0) (length (s .bonds)) (length-map (s .bonds) (λ (b : Bond). b .lo)),
+        all-replicate (λ (x : ℕ). eqb x 0) (maxBonds - length (map (λ (b : Bond). b .lo) (s .bonds))) 0 refl,
+        drop-at (map (λ (b : Bond). b .hi) (s .bonds)) (replicate (maxBonds - length (map (λ (b : Bond). b .hi) (s .bonds))) 0) (length (s .bonds)) (length-map (s .bonds) (λ (b : Bond). b .hi)),
+        all-replicate (λ (x : ℕ). eqb x 0) (maxBonds - length (map (λ (b : Bond). b .hi) (s .bonds))) 0 refl,
+      )
+
+-- ---- a journal
+
+-- What a journal has to be to lie in a record whole.
+pub record Fits (n : ℕ) (j : Journal) : Type 0 where
+  pub places : length (j .marking .places) ≡ n
+  pub bonds : length (j .marking .bonds) ≤ maxBonds
+  pub lines : length (j .lines) ≤ maxLive
+  pub flags : (l : LiveLine) → Mem l (j .lines) → length (l .moved) ≡ n
+
+module _ (n : ℕ) (j : Journal) (F : Fits n j) where
+  line-back : (l : LiveLine) → Mem l (j .lines) → lineOf n (firingOf l) ≡ l
+  line-back l m = λ i. record { transition = l .transition; key = l .key; moved = take-at (l .moved) (replicate (maxBases - length (l .moved)) false) n (F .flags l m) i }
+
+  pub journal-back : journalOf n (recordOf j) ≡ j
+  unfolding recordOf
+  journal-back = λ i. record {
+    marking = marking-back n (j .marking) (F .places) i;
+    lines = table-back firingOf (lineOf n) past (j .lines) (replicate (maxLive - length (j .lines)) noFiring) line-back i;
+  }
+
+  flags-unset : (l : LiveLine) → Mem l (j .lines) → unset (drop n (firingOf l .moved)) ≡ true
+  flags-unset l m = rw (drop-at (l .moved) (replicate (maxBases - length (l .moved)) false) n (F .flags l m)) (all-replicate not (maxBases - length (l .moved)) false refl)
+
+  pub record-form : recordInForm n (recordOf j) ≡ true
+  unfolding recordOf recordInForm
+  record-form =
+      rw (
+        laid-form n (j .marking) (F .places) (F .bonds),
+        le-leb (length (j .lines)) maxLive (F .lines),
+        take-at (map firingOf (j .lines)) (replicate (maxLive - length (j .lines)) noFiring) (length (j .lines)) (length-map (j .lines) firingOf),
+        drop-at (map firingOf (j .lines)) (replicate (maxLive - length (j .lines)) noFiring) (length (j .lines)) (length-map (j .lines) firingOf),
+        all-replicate isNoFiring (maxLive - length (j .lines)) noFiring refl,
+        all-map (λ (f : Firing). unset (drop n (f .moved))) firingOf (j .lines) flags-unset,
+      )
