@@ -1,13 +1,16 @@
 -- Laws of loops over an index: one that fills a list from the front with f 0, f 1, .., and those that gather a test.
 -- Assumes nothing.
 use mathlib.Core.Path.{_≡_, refl, sym, _∙_, ap}
+use mathlib.Core.Logic.{inl, inr}
 use mathlib.Core.Bool.{Bool, true, false, _||_, or-false, or-assoc}
 use mathlib.Core.List.{List, [], _∷_, _++_, map, append-assoc}
 use Prim.Native.Nat.{ℕ, zero, suc, _+_, _<_, _≤_}
 use native.Mathlib.Omega.{arith}
 use native.Mathlib.Numerals.{add-one}
+use native.Mathlib.Nat.{le-of-suc-le-suc, not-suc-le-zero}
 use lib.ListN.{length, getD, drop, set, drop-of-length-le}
 use lib.Seq.{drop-cons, set-at}
+use Rattle.causal.specs.Lists.{Mem}
 use Rattle.net.specs.Tests.{pick, count, table}
 use Rattle.net.specs.Sorted.{has}
 use Rattle.net.proofs.Tables.{length-table, table-more, table-list}
@@ -69,3 +72,8 @@ module _ {X Y : Type 0} where
 -- no more elements pass than a table has
 pub count-table : {X : Type 0} (t : X → Bool) (n : ℕ) (f : ℕ → X) → count t (table n f) ≤ n
 count-table t n f = let a = count-le t (table n f) in let b = length-table n f in omega arith
+
+pub mem-table : {X : Type 0} (n : ℕ) (f : ℕ → X) (p : ℕ) → p < n → Mem (f p) (table n f)
+mem-table zero f p h = absurd (not-suc-le-zero h)
+mem-table (suc n) f zero h = inl refl
+mem-table (suc n) f (suc p) h = inr (mem-table n (λ k. f (suc k)) p (le-of-suc-le-suc h))

@@ -1,0 +1,53 @@
+-- `enabling::is_in_bond` meets its contract.
+-- Assumes nothing.
+use mathlib.Core.Path.{_≡_, refl, sym, _∙_}
+use Prim.Native.Nat.{_-_, _≤_}
+use native.Mathlib.Omega.{arith}
+use borrow.Author.Needs.{needs}
+use Rattle.net.specs.Net.{sameBond, hasBond}
+use Rattle.net.specs.Tests.{table}
+use Rattle.format.specs.Arcs.{inCount, nthInBond}
+use Rattle.bonds.proofs.Fill.{has-more}
+use Rattle.enabling.proofs.is_in_bond.Tie as tie
+use Rattle.enabling.proofs.is_in_bond.Statement.{statement}
+
+abbrev Inv-loop : tie.InvT-loop
+Inv-loop step b count found₀ i₀ found i = (count ≡ inCount step) × (i ≤ count) × (found ≡ hasBond b (table i (nthInBond step)))
+
+abbrev μ-loop : tie.MeasureT-loop
+μ-loop step b count found₀ i₀ found i = count - i
+
+in-count-requires : tie.Need-in-count-requires Inv-loop μ-loop
+in-count-requires c κs = search needs
+
+loop-holds : tie.Need-loop-holds Inv-loop μ-loop
+loop-holds c = (c .in-count .ensures, search needs, refl)
+
+in-bond-requires : tie.Need-in-bond-requires Inv-loop μ-loop
+in-bond-requires c κs = search needs
+
+add-i : tie.Need-add-i Inv-loop μ-loop
+add-i c = search needs
+
+loop-less : tie.Need-loop-less Inv-loop μ-loop
+loop-less c = search needs
+
+loop-again : tie.Need-loop-again Inv-loop μ-loop
+loop-again c = (search needs, search needs, rw (c .before .before .before .before .before .before .loop .inv .2, c .before .before .before .before .in-bond .ensures) (sym (has-more sameBond (c .before .before .before .before .before .before .before .before .before .args .b) (c .before .before .before .before .before .before .loop .i) (nthInBond (c .before .before .before .before .before .before .before .before .before .args .step .now)))))
+
+returns : tie.Need-returns Inv-loop μ-loop
+returns c = let e : c .before .loop .i ≡ inCount (c .before .before .before .before .args .step .now) = omega arith in c .before .loop .inv .2 ∙ rw e
+
+pub is-in-bond-spec : {M : Type 1} → statement M
+is-in-bond-spec =
+    tie.close
+    (tie.spec
+    Inv-loop
+    μ-loop
+    in-count-requires
+    loop-holds
+    in-bond-requires
+    add-i
+    loop-less
+    loop-again
+    returns)

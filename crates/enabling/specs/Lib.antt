@@ -1,0 +1,2 @@
+-- What the callers know of a step and a marking.
+pub mod Ready

@@ -1,0 +1,23 @@
+-- What is known where a step is looked at: the marking is in its form and good, and the sheet was accepted.
+-- Definitions only.
+use mathlib.Core.Path.{_≡_}
+use mathlib.Core.Bool.{true}
+use Prim.Native.Nat.{ℕ, _<_, _≤_}
+use Rattle.causal.specs.Lists.{Mem}
+use Rattle.net.specs.Limits.{maxBases}
+use Rattle.net.specs.Sorted.{Ascending}
+use Rattle.net.specs.Net.{Arcs, sameBond, lessBond, hasBond}
+use Rattle.net.specs.declared.Bond.{Bond}
+use Rattle.net.specs.declared.Entry.{Entry}
+use Rattle.marking.specs.declared.Marking.{Marking}
+use Rattle.marking.specs.Form.{bondsOf, markingOf, laid}
+
+-- n bases; m is in its form; its bonds are in strict order and of bases of the net; so are the step's entries and the
+-- bonds that it adds.
+pub record Ready (n : ℕ) (t : Arcs) (m : Marking) : Type 0 where
+  pub few : n ≤ maxBases
+  pub form : m ≡ laid (markingOf n m)
+  pub order : Ascending sameBond lessBond (bondsOf m)
+  pub range : (b : Bond) → hasBond b (bondsOf m) ≡ true → (b .lo < b .hi) × (b .hi < n)
+  pub bases : (e : Entry) → Mem e (t .entries) → e .base < n
+  pub outs : (b : Bond) → hasBond b (t .outBonds) ≡ true → (b .lo < b .hi) × (b .hi < n)
