@@ -1,0 +1,38 @@
+use native.Mathlib.Omega.{arith}
+use mathlib.Core.Path.{_≡_, refl, ap, sym, _∙_}
+use Prim.Native.Nat.{ℕ, suc, _+_, _-_, _*_, _<_, _≤_}
+use lib.ListN.{length, getD, take, drop, set}
+use mathlib.Core.List.{List, [], _∷_, _++_}
+use borrow.Author.Needs.{needs}
+use Rattle.steps.proofs.moved_by.Statement.{statement}
+use Rattle.steps.proofs.moved_by.Tie as tie
+use Rattle.steps.proofs.moved_by.Reads as reads
+use Rattle.steps.proofs.moved_by.Lts as lts
+use Rattle.enabling.proofs.moved_bases.Reads as moved-bases-reads
+use Rattle.format.proofs.base_count.Reads as base-count-reads
+use Rattle.format.proofs.transition_bytes.Reads as transition-bytes-reads
+
+-- src/lib.rt:56:13
+base-count-requires : tie.Need-base-count-requires
+base-count-requires c κs = search needs
+
+-- src/lib.rt:56:13
+cast-n : tie.Need-cast-n
+cast-n c = search needs
+
+-- src/lib.rt:57:9
+transition-bytes-requires : tie.Need-transition-bytes-requires
+transition-bytes-requires c κs = search needs
+
+-- src/lib.rt:58:5
+moved-bases-requires : tie.Need-moved-bases-requires
+moved-bases-requires c κs = ?rmoved-bases-requires
+
+-- src/lib.rt:52:1
+returns : tie.Need-returns
+returns c = ?rreturns
+
+pub moved-by-spec : {M : Type 1} → statement M
+moved-by-spec =
+    tie.close
+    (tie.spec base-count-requires cast-n transition-bytes-requires moved-bases-requires returns)

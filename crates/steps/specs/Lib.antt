@@ -1,0 +1,2 @@
+-- What is known where a transition of a sheet is fired.
+pub mod Placed
