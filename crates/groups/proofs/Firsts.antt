@@ -34,7 +34,7 @@ module _ {X : Type 0} where
   table-same zero d = refl
   table-same (suc N) d = ap (λ (l : List X). d ∷ l) (table-same N d)
 
-  drop-back : (n L : ℕ) (f : ℕ → X) → 0 < L → L ≤ n → drop (L - 1) (table n f) ≡ f (L - 1) ∷ drop L (table n f)
+  pub drop-back : (n L : ℕ) (f : ℕ → X) → 0 < L → L ≤ n → drop (L - 1) (table n f) ≡ f (L - 1) ∷ drop L (table n f)
   drop-back n L f a b =
       let s : L - 1 < length (table n f) = rw (length-table n f) (omega arith) in
       let q : suc (L - 1) ≡ L = omega arith in

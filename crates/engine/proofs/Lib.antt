@@ -1,0 +1,5 @@
+-- Laws that the proofs of this crate's functions cite, and the crates above.
+pub mod Adding
+pub mod Removing
+pub mod Whole
+pub mod Kept
