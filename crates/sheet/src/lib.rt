@@ -4,7 +4,7 @@ ghost use mathlib.Core.Path.{_≡_};
 ghost use Prim.Native.Nat.{_+_, _*_, _<_, _≤_};
 ghost use Rattle.net.specs.Checks.{first};
 ghost use Rattle.format.specs.Parts.{transitionsOf};
-ghost use Rattle.sheet.specs.Checks.{headChecks, transitionChecks, checksFrom, sheetChecks, checked};
+ghost use Rattle.sheet.specs.Checks.{headChecks, transitionChecks, checksFrom, sheetChecks, checked, sheetNumber};
 ghost use Rattle.sheet.specs.declared.SheetAnswer.{SheetAnswer};
 use format::base_count;
 use format::place_count;
@@ -109,5 +109,15 @@ pub fn check_sheet(sheet: &[u8]) -> SheetAnswer
         SheetAnswer::Accepted
     } else {
         SheetAnswer::Refused(refusal)
+    }
+}
+
+// The number that document 01 has for an answer; 0 for an accepted sheet.
+pub fn sheet_number(answer: SheetAnswer) -> u8
+    ensures { λ r. ⌜ r ≡ sheetNumber answer ⌝ }
+{
+    match answer {
+        SheetAnswer::Accepted => 0,
+        SheetAnswer::Refused(n) => n,
     }
 }
