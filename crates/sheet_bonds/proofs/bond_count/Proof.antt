@@ -1,9 +1,9 @@
--- `sheet_arcs::bond_count` meets its contract.
+-- `sheet_bonds::bond_count` meets its contract.
 -- Assumes nothing.
 use mathlib.Core.Path.{_∙_}
 use borrow.Author.Needs.{needs}
-use Rattle.sheet_arcs.proofs.bond_count.Statement.{statement}
-use Rattle.sheet_arcs.proofs.bond_count.Tie as tie
+use Rattle.sheet_bonds.proofs.bond_count.Statement.{statement}
+use Rattle.sheet_bonds.proofs.bond_count.Tie as tie
 
 out-count-requires : tie.Need-out-count-requires
 out-count-requires c κs = search needs

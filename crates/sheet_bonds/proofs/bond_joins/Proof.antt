@@ -1,6 +1,6 @@
--- `sheet_arcs::bond_joins` meets its contract.
+-- `sheet_bonds::bond_joins` meets its contract.
 -- Assumes nothing.
-use Rattle.sheet_arcs.proofs.Tests.{starting}
+use Rattle.sheet_bonds.proofs.Tests.{starting}
 use Rattle.format.proofs.Loops.{any-on, any-left, any-end}
 use Rattle.format.specs.Arcs.{entryCount, nthEntry, arcsIn}
 use Rattle.net.specs.Tests.{any, table}
@@ -11,8 +11,8 @@ use native.Mathlib.Omega.{arith}
 use mathlib.Core.Path.{_≡_, refl, sym, _∙_}
 use Prim.Native.Nat.{ℕ, _-_, _<_, _≤_}
 use mathlib.Core.List.{List}
-use Rattle.sheet_arcs.proofs.bond_joins.Statement.{statement}
-use Rattle.sheet_arcs.proofs.bond_joins.Tie as tie
+use Rattle.sheet_bonds.proofs.bond_joins.Statement.{statement}
+use Rattle.sheet_bonds.proofs.bond_joins.Tie as tie
 
 abbrev Inv-loop : tie.InvT-loop
 Inv-loop b out x n i₀ i = (n ≡ entryCount b) × (i ≤ n) × (x .lo < x .hi) × (any (starting out (arcsIn b .entries) x) (table i (nthEntry b)) ≡ false)

@@ -1,9 +1,9 @@
--- `sheet_arcs::starts` meets its contract.
+-- `sheet_bonds::starts` meets its contract.
 -- Assumes nothing.
 use borrow.Author.Tests.{eq-eqb, ne-eqb}
 use borrow.Author.Needs.{needs}
-use Rattle.sheet_arcs.proofs.starts.Statement.{statement}
-use Rattle.sheet_arcs.proofs.starts.Tie as tie
+use Rattle.sheet_bonds.proofs.starts.Statement.{statement}
+use Rattle.sheet_bonds.proofs.starts.Tie as tie
 
 returns : tie.Need-returns
 returns c = rw (ne-eqb _ _ (c .if1 .taken))

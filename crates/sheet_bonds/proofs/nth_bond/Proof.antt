@@ -1,9 +1,9 @@
--- `sheet_arcs::nth_bond` meets its contract.
+-- `sheet_bonds::nth_bond` meets its contract.
 -- Assumes nothing.
 use mathlib.Core.Path.{_∙_}
 use borrow.Author.Needs.{needs}
-use Rattle.sheet_arcs.proofs.nth_bond.Statement.{statement}
-use Rattle.sheet_arcs.proofs.nth_bond.Tie as tie
+use Rattle.sheet_bonds.proofs.nth_bond.Statement.{statement}
+use Rattle.sheet_bonds.proofs.nth_bond.Tie as tie
 
 out-bond-requires : tie.Need-out-bond-requires
 out-bond-requires c κs = search needs

@@ -1,4 +1,4 @@
--- `sheet_arcs::has_out_bond` meets its contract.
+-- `sheet_bonds::has_out_bond` meets its contract.
 -- Assumes nothing.
 use Rattle.format.proofs.Loops.{any-on, any-left, any-end, has-any}
 use Rattle.format.specs.Arcs.{outCount, nthOutBond, arcsIn}
@@ -10,8 +10,8 @@ use native.Mathlib.Omega.{arith}
 use mathlib.Core.Path.{_≡_, refl, sym, _∙_}
 use Prim.Native.Nat.{ℕ, _-_, _≤_}
 use mathlib.Core.List.{List}
-use Rattle.sheet_arcs.proofs.has_out_bond.Statement.{statement}
-use Rattle.sheet_arcs.proofs.has_out_bond.Tie as tie
+use Rattle.sheet_bonds.proofs.has_out_bond.Statement.{statement}
+use Rattle.sheet_bonds.proofs.has_out_bond.Tie as tie
 
 abbrev Inv-loop : tie.InvT-loop
 Inv-loop b x n i₀ i = (n ≡ outCount b) × (i ≤ n) × (any (sameBond x) (table i (nthOutBond b)) ≡ false)

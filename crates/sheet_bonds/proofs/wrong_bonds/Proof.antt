@@ -1,11 +1,11 @@
--- `sheet_arcs::wrong_bonds` meets its contract.
+-- `sheet_bonds::wrong_bonds` meets its contract.
 -- Assumes nothing.
-use Rattle.sheet_arcs.proofs.Tests.{in-wrong, out-wrong, kept-wrong}
+use Rattle.sheet_bonds.proofs.Tests.{in-wrong, out-wrong, kept-wrong}
 use borrow.Author.Tests.{not-true, not-false}
 use mathlib.Core.Path.{sym, _∙_}
 use borrow.Author.Needs.{needs}
-use Rattle.sheet_arcs.proofs.wrong_bonds.Statement.{statement}
-use Rattle.sheet_arcs.proofs.wrong_bonds.Tie as tie
+use Rattle.sheet_bonds.proofs.wrong_bonds.Statement.{statement}
+use Rattle.sheet_bonds.proofs.wrong_bonds.Tie as tie
 
 bonds-good-requires : tie.Need-bonds-good-requires
 bonds-good-requires c κs = search needs

@@ -1,8 +1,8 @@
--- `sheet_arcs::bonds_same` meets its contract.
+-- `sheet_bonds::bonds_same` meets its contract.
 -- Assumes nothing.
 use borrow.Author.Tests.{eq-eqb, ne-eqb}
-use Rattle.sheet_arcs.proofs.bonds_same.Statement.{statement}
-use Rattle.sheet_arcs.proofs.bonds_same.Tie as tie
+use Rattle.sheet_bonds.proofs.bonds_same.Statement.{statement}
+use Rattle.sheet_bonds.proofs.bonds_same.Tie as tie
 
 returns : tie.Need-returns
 returns c = rw (eq-eqb _ _ (c .before .before .if1 .taken))

@@ -1,6 +1,6 @@
--- `sheet_arcs::bonds_kept` meets its contract.
+-- `sheet_bonds::bonds_kept` meets its contract.
 -- Assumes nothing.
-use Rattle.sheet_arcs.proofs.Tests.{kept}
+use Rattle.sheet_bonds.proofs.Tests.{kept}
 use Rattle.format.proofs.Loops.{all-on, all-left, all-end}
 use Rattle.format.specs.Arcs.{inCount, nthInBond}
 use Rattle.net.specs.Tests.{all, table}
@@ -11,8 +11,8 @@ use native.Mathlib.Omega.{arith}
 use mathlib.Core.Path.{_≡_, refl, sym, _∙_}
 use Prim.Native.Nat.{ℕ, _-_, _≤_}
 use mathlib.Core.List.{List}
-use Rattle.sheet_arcs.proofs.bonds_kept.Statement.{statement}
-use Rattle.sheet_arcs.proofs.bonds_kept.Tie as tie
+use Rattle.sheet_bonds.proofs.bonds_kept.Statement.{statement}
+use Rattle.sheet_bonds.proofs.bonds_kept.Tie as tie
 
 abbrev Inv-loop : tie.InvT-loop
 Inv-loop b n i₀ i = (n ≡ inCount b) × (i ≤ n) × (all (kept b) (table i (nthInBond b)) ≡ true)

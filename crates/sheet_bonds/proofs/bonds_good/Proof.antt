@@ -1,10 +1,10 @@
--- `sheet_arcs::bonds_good` meets its contract.
+-- `sheet_bonds::bonds_good` meets its contract.
 -- Assumes nothing.
 use borrow.Author.Tests.{not-true, not-false}
 use mathlib.Core.Path.{sym, _∙_}
 use borrow.Author.Needs.{needs}
-use Rattle.sheet_arcs.proofs.bonds_good.Statement.{statement}
-use Rattle.sheet_arcs.proofs.bonds_good.Tie as tie
+use Rattle.sheet_bonds.proofs.bonds_good.Statement.{statement}
+use Rattle.sheet_bonds.proofs.bonds_good.Tie as tie
 
 bonds-ascend-requires : tie.Need-bonds-ascend-requires
 bonds-ascend-requires c κs = search needs

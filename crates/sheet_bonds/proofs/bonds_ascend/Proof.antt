@@ -1,7 +1,7 @@
--- `sheet_arcs::bonds_ascend` meets its contract.
+-- `sheet_bonds::bonds_ascend` meets its contract.
 -- Assumes nothing.
 use Rattle.format.proofs.Loops.{self, below, ascends-on, ascends-left, ascends-end}
-use Rattle.sheet_arcs.specs.Sides.{bondCount, nthBond}
+use Rattle.sheet_bonds.specs.Sides.{bondCount, nthBond}
 use Rattle.net.specs.Net.{lessBond}
 use Rattle.net.specs.Tests.{all, table}
 use mathlib.Core.Bool.{true}
@@ -11,8 +11,8 @@ use native.Mathlib.Omega.{arith}
 use mathlib.Core.Path.{_≡_, refl, sym, _∙_}
 use Prim.Native.Nat.{ℕ, _-_, _≤_}
 use mathlib.Core.List.{List}
-use Rattle.sheet_arcs.proofs.bonds_ascend.Statement.{statement}
-use Rattle.sheet_arcs.proofs.bonds_ascend.Tie as tie
+use Rattle.sheet_bonds.proofs.bonds_ascend.Statement.{statement}
+use Rattle.sheet_bonds.proofs.bonds_ascend.Tie as tie
 
 abbrev Inv-loop : tie.InvT-loop
 Inv-loop b out n i₀ i = (n ≡ bondCount b out) × (i ≤ n - 1) × (all self (table i (below lessBond (nthBond b out))) ≡ true)

@@ -1,9 +1,9 @@
--- `sheet_arcs::is_partner` meets its contract.
+-- `sheet_bonds::is_partner` meets its contract.
 -- Assumes nothing.
 use borrow.Author.Tests.{eq-eqb, ne-eqb}
 use borrow.Author.Needs.{needs}
-use Rattle.sheet_arcs.proofs.is_partner.Statement.{statement}
-use Rattle.sheet_arcs.proofs.is_partner.Tie as tie
+use Rattle.sheet_bonds.proofs.is_partner.Statement.{statement}
+use Rattle.sheet_bonds.proofs.is_partner.Tie as tie
 
 returns : tie.Need-returns
 returns c = rw (ne-eqb _ _ (c .if1 .taken))

@@ -1,6 +1,6 @@
--- `sheet_arcs::has_partner` meets its contract.
+-- `sheet_bonds::has_partner` meets its contract.
 -- Assumes nothing.
-use Rattle.sheet_arcs.proofs.Tests.{partner}
+use Rattle.sheet_bonds.proofs.Tests.{partner}
 use Rattle.format.proofs.Loops.{any-on, any-left, any-end}
 use Rattle.format.specs.Arcs.{entryCount, nthEntry}
 use Rattle.net.specs.Tests.{any, table}
@@ -10,8 +10,8 @@ use native.Mathlib.Omega.{arith}
 use mathlib.Core.Path.{_≡_, refl, sym, _∙_}
 use Prim.Native.Nat.{ℕ, _-_, _≤_}
 use mathlib.Core.List.{List}
-use Rattle.sheet_arcs.proofs.has_partner.Statement.{statement}
-use Rattle.sheet_arcs.proofs.has_partner.Tie as tie
+use Rattle.sheet_bonds.proofs.has_partner.Statement.{statement}
+use Rattle.sheet_bonds.proofs.has_partner.Tie as tie
 
 abbrev Inv-loop : tie.InvT-loop
 Inv-loop b out hi at n i₀ i = (n ≡ entryCount b) × (i ≤ n) × (any (partner out hi at) (table i (nthEntry b)) ≡ false)

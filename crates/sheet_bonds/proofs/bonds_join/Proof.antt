@@ -1,7 +1,7 @@
--- `sheet_arcs::bonds_join` meets its contract.
+-- `sheet_bonds::bonds_join` meets its contract.
 -- Assumes nothing.
 use Rattle.format.proofs.Loops.{all-on, all-left, all-end}
-use Rattle.sheet_arcs.specs.Sides.{sideOf, bondCount, nthBond}
+use Rattle.sheet_bonds.specs.Sides.{sideOf, bondCount, nthBond}
 use Rattle.format.specs.Arcs.{arcsIn}
 use Rattle.net.specs.Rules.{joins}
 use Rattle.net.specs.Tests.{all, table}
@@ -12,8 +12,8 @@ use native.Mathlib.Omega.{arith}
 use mathlib.Core.Path.{_≡_, refl, sym, _∙_}
 use Prim.Native.Nat.{ℕ, _-_, _≤_}
 use mathlib.Core.List.{List}
-use Rattle.sheet_arcs.proofs.bonds_join.Statement.{statement}
-use Rattle.sheet_arcs.proofs.bonds_join.Tie as tie
+use Rattle.sheet_bonds.proofs.bonds_join.Statement.{statement}
+use Rattle.sheet_bonds.proofs.bonds_join.Tie as tie
 
 abbrev Inv-loop : tie.InvT-loop
 Inv-loop b out n i₀ i = (n ≡ bondCount b out) × (i ≤ n) × (all (joins (sideOf out) (arcsIn b .entries)) (table i (nthBond b out)) ≡ true)
