@@ -19,7 +19,7 @@ use net::Entry;
 use net::MAX_ENTRIES;
 use net::Place;
 
-// 7
+// 7: the counts give another length, or there are no entries or too many.
 pub fn wrong_width(b: &[u8]) -> bool
     ensures { λ r. ⌜ r ≡ wrongWidth (now (b .entry)) ⌝ }
 {
@@ -78,7 +78,7 @@ fn entries_ascend(b: &[u8]) -> bool
     true
 }
 
-// 8
+// 8: an entry names what is not there, or the bases do not ascend.
 pub fn wrong_entries(b: &[u8], places: Place, bases: Base) -> bool
     ensures { λ r. ⌜ r ≡ wrongEntries places bases (now (b .entry)) ⌝ }
 {

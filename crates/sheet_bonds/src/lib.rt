@@ -174,7 +174,7 @@ fn bonds_kept(b: &[u8]) -> bool
     true
 }
 
-// 9
+// 9: a coupling of one side or the other is against the rule, or an in-coupling is no out-coupling.
 pub fn wrong_bonds(b: &[u8]) -> bool
     ensures { λ r. ⌜ r ≡ wrongBonds (now (b .entry)) ⌝ }
 {
