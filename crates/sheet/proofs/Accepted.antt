@@ -1,37 +1,30 @@
 -- What is promised of an accepted sheet (specs/Promises): where no check holds, the net that the sheet describes keeps all of
 -- the sheet's rules, the limits hold, and every number in it is within its count. Assumes nothing.
-use mathlib.Core.Path.{_≡_, refl, sym, ap, _∙_}
-use mathlib.Core.Logic.{_⊎_, inl, inr}
-use mathlib.Core.Bool.{Bool, true, false, not, _&&_, _||_}
-use mathlib.Core.List.{List, [], _∷_, _++_}
-use Prim.Native.Nat.{ℕ, zero, suc, _+_, _-_, _*_, _%_, _<_, _≤_}
+use mathlib.Core.Path.{_≡_, refl, sym, _∙_}
+use mathlib.Core.Bool.{Bool, true, false, not, _||_}
+use mathlib.Core.List.{List, _++_}
+use Prim.Native.Nat.{ℕ, zero, suc, _+_, _%_, _<_, _≤_}
 use native.Mathlib.Omega.{arith}
-use native.Mathlib.Numerals.{add-one}
 use native.Mathlib.Nat.{le-of-suc-le-suc, not-suc-le-zero}
-use lib.Dec.{eqb, ltb, leb}
+use lib.Dec.{eqb, ltb}
 use lib.ListN.{length, getD}
-use borrow.Author.Tests.{ltb-true, ltb-false, lt-ltb, eqb-true, eqb-false, not-true, not-false}
+use borrow.Author.Tests.{ltb-true, ltb-false, eqb-true, not-true, not-false}
 use Rattle.causal.specs.Lists.{Mem}
-use Rattle.net.specs.Limits.{maxSheet, maxPlaces, maxBases, maxTransitions, maxEntries}
-use Rattle.net.specs.Tests.{pick, all, any, table}
+use Rattle.net.specs.Limits.{maxSheet, maxPlaces, maxBases, maxTransitions}
+use Rattle.net.specs.Tests.{pick, all, table}
 use Rattle.net.specs.Sorted.{ascends}
-use Rattle.net.specs.Net.{Arcs, Marking, lessBond, place}
-use Rattle.net.specs.Rules.{startPlacesRule, startBondRule, startBondsRule, entryRule, entriesRule, joins, bondsRule, keptRule, arcsBondsRule, arcsRule, netRule}
+use Rattle.net.specs.Net.{lessBond, place}
+use Rattle.net.specs.Rules.{startPlacesRule, startBondRule, startBondsRule, arcsRule, netRule}
 use Rattle.net.specs.Checks.{Check, check, clear, first}
 use Rattle.net.specs.Journal.{transition}
 use Rattle.net.specs.declared.Bond.{Bond}
-use Rattle.net.specs.declared.Entry.{Entry}
-use Rattle.net.proofs.Tests.{and-l, and-r, and-i, or-no-l, or-no-r, all-e, any-e, all-at, all-append}
-use Rattle.net.proofs.Tables.{length-table}
+use Rattle.net.proofs.Tests.{and-l, and-r, or-no-l, or-no-r, all-e, all-at, all-append}
 use Rattle.format.specs.Bytes.{outside, headerWidth, bondWidth}
 use Rattle.format.specs.Parts.{placesOf, basesOf, transitionsOf, startPlaces, startBonds, transitionBytes}
-use Rattle.format.specs.Arcs.{entryCount, nthEntry, arcsWidth, arcsIn}
 use Rattle.format.specs.NetOf.{startOf, netOf}
-use Rattle.sheet_start.specs.Conditions.{wrongSize, wrongVersion, wrongCounts, wrongPairs, wrongStartPlaces, wrongStartBonds}
-use Rattle.sheet_arcs.specs.Conditions.{wrongWidth, wrongEntries, wrongBonds}
+use Rattle.sheet_start.specs.Conditions.{wrongSize, wrongCounts, wrongStartPlaces, wrongStartBonds}
 use Rattle.sheet.specs.Checks.{headChecks, transitionChecks, checksFrom, sheetChecks, checked}
-use Rattle.sheet.specs.Promises.{Within, Fits, arcsAt, GoodArcs, Promised}
-use Rattle.sheet.specs.declared.SheetAnswer.{SheetAnswer}
+use Rattle.sheet.specs.Promises.{Fits, arcsAt, GoodArcs, Promised}
 use Rattle.sheet.specs.declared.SheetAnswer.the-variants.{Accepted, Refused}
 use Rattle.sheet.proofs.Arcs.{within, all-table, arcs-rule, good-arcs}
 

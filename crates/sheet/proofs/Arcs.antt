@@ -1,36 +1,28 @@
 -- One transition of which 7, 8 and 9 do not hold: its arcs keep the rules, and every number in them is within its count.
 -- Assumes nothing.
-use mathlib.Core.Path.{_≡_, refl, sym, ap, _∙_}
-use mathlib.Core.Logic.{_⊎_, inl, inr}
-use mathlib.Core.Bool.{Bool, true, false, not, _&&_, _||_}
-use mathlib.Core.List.{List, [], _∷_, _++_}
-use Prim.Native.Nat.{ℕ, zero, suc, _+_, _-_, _*_, _%_, _<_, _≤_}
+use mathlib.Core.Path.{_≡_, refl}
+use mathlib.Core.Bool.{Bool, true, false, not, _&&_}
+use mathlib.Core.List.{List}
+use Prim.Native.Nat.{ℕ, zero, suc, _<_, _≤_}
 use native.Mathlib.Omega.{arith}
-use native.Mathlib.Numerals.{add-one}
-use native.Mathlib.Nat.{le-of-suc-le-suc, not-suc-le-zero}
-use lib.Dec.{eqb, ltb, leb}
-use lib.ListN.{length, getD}
-use borrow.Author.Tests.{ltb-true, ltb-false, lt-ltb, eqb-true, eqb-false, not-true, not-false}
+use lib.Dec.{eqb, ltb}
+use lib.ListN.{length}
+use borrow.Author.Tests.{ltb-true, ltb-false, lt-ltb, eqb-true, eqb-false, not-false}
 use Rattle.causal.specs.Lists.{Mem}
-use Rattle.net.specs.Limits.{maxSheet, maxPlaces, maxBases, maxTransitions, maxEntries}
-use Rattle.net.specs.Tests.{pick, all, any, table}
+use Rattle.net.specs.Limits.{maxEntries}
+use Rattle.net.specs.Tests.{all, table}
 use Rattle.net.specs.Sorted.{ascends}
-use Rattle.net.specs.Net.{Arcs, Marking, lessBond, place}
-use Rattle.net.specs.Rules.{startPlacesRule, startBondRule, startBondsRule, entryRule, entriesRule, joins, bondsRule, keptRule, arcsBondsRule, arcsRule, netRule}
-use Rattle.net.specs.Checks.{Check, check, clear, first}
-use Rattle.net.specs.Journal.{transition}
+use Rattle.net.specs.Net.{lessBond}
+use Rattle.net.specs.Rules.{entryRule, entriesRule, joins, bondsRule, keptRule, arcsBondsRule, arcsRule}
 use Rattle.net.specs.declared.Bond.{Bond}
 use Rattle.net.specs.declared.Entry.{Entry}
-use Rattle.net.proofs.Tests.{and-l, and-r, and-i, or-no-l, or-no-r, all-e, any-e, all-at, all-append}
+use Rattle.net.proofs.Tests.{and-l, and-r, and-i, or-no-l, or-no-r, all-e, any-e}
 use Rattle.net.proofs.Tables.{length-table}
-use Rattle.format.specs.Bytes.{outside, bondWidth}
-use Rattle.format.specs.Parts.{placesOf, basesOf, transitionsOf, startPlaces, startBonds, transitionBytes}
-use Rattle.format.specs.Arcs.{entryCount, nthEntry, arcsWidth, arcsIn}
-use Rattle.format.specs.NetOf.{startOf, netOf}
-use Rattle.sheet_start.specs.Conditions.{wrongSize, wrongVersion, wrongCounts, wrongPairs, wrongStartPlaces, wrongStartBonds}
-use Rattle.sheet_arcs.specs.Conditions.{wrongWidth, wrongEntries, wrongBonds}
-use Rattle.sheet.specs.Checks.{headChecks, transitionChecks, checksFrom, sheetChecks, checked}
-use Rattle.sheet.specs.Promises.{Within, Fits, arcsAt, GoodArcs, Promised}
+use Rattle.format.specs.Bytes.{outside}
+use Rattle.format.specs.Arcs.{entryCount, arcsWidth, arcsIn}
+use Rattle.sheet_arcs.specs.Conditions.{wrongWidth, wrongEntries}
+use Rattle.sheet_bonds.specs.Conditions.{wrongBonds}
+use Rattle.sheet.specs.Promises.{Within, Fits, GoodArcs}
 
 -- ---- tests
 

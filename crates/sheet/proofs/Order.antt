@@ -1,6 +1,6 @@
 -- Laws of checks in order: the first that holds in two lists, one after the other; none holds where the first is 0.
 -- Then the checks of a transition, and of the transitions from one on. Assumes nothing.
-use mathlib.Core.Path.{_≡_, refl, sym, ap, _∙_}
+use mathlib.Core.Path.{_≡_, refl, sym, _∙_}
 use mathlib.Core.Bool.{Bool, true, false, not, _&&_}
 use mathlib.Core.List.{List, [], _∷_, _++_}
 use Prim.Native.Nat.{ℕ, zero, suc, _+_, _-_, _<_, _≤_}
@@ -10,11 +10,11 @@ use borrow.Author.Tests.{ltb-true, eq-eqb, ne-eqb}
 use Rattle.net.specs.Tests.{pick, all}
 use Rattle.net.specs.Checks.{Check, clear, first, numbers}
 use Rattle.net.specs.Journal.{transition}
-use Rattle.net.proofs.Tests.{and-l, and-r, and-i, all-append}
+use Rattle.net.proofs.Tests.{and-l, and-r}
 use Rattle.format.specs.Parts.{placesOf, basesOf, transitionsOf, transitionBytes}
-use Rattle.sheet_arcs.specs.Conditions.{wrongWidth, wrongEntries, wrongBonds}
+use Rattle.sheet_arcs.specs.Conditions.{wrongWidth, wrongEntries}
+use Rattle.sheet_bonds.specs.Conditions.{wrongBonds}
 use Rattle.sheet.specs.Checks.{headChecks, transitionChecks, checksFrom, sheetChecks, checked, sheetNumber}
-use Rattle.sheet.specs.declared.SheetAnswer.{SheetAnswer}
 use Rattle.sheet.specs.declared.SheetAnswer.the-variants.{Accepted, Refused}
 
 -- ---- any list of checks
@@ -104,14 +104,6 @@ module _ (s : List ℕ) where
   unfolding sheetChecks
   none-first = clear-first (headChecks s ++ checksFrom s 0 (transitionsOf s)) (from-numbered s 0 (transitionsOf s))
 
-  pub answered-none : (r : ℕ) → r ≡ first (sheetChecks s) → r ≡ 0 → Accepted ≡ checked s
-  unfolding checked
-  answered-none r e d = rw (none-first, ← e, eq-eqb r 0 d)
-
-  pub answered-one : (r : ℕ) → r ≡ first (sheetChecks s) → (r ≡ 0 → ⊥) → Refused r ≡ checked s
-  unfolding checked
-  answered-one r e d = rw (none-first, ← e, ne-eqb r 0 d)
-
   -- the answer's number is that of the first check that holds, 0 where none does
   pub answer-number : sheetNumber (checked s) ≡ first (sheetChecks s)
   unfolding checked
@@ -120,3 +112,12 @@ module _ (s : List ℕ) where
       go : (n : ℕ) → sheetNumber (pick (eqb n 0) Accepted (Refused n)) ≡ n
       go zero = refl
       go (suc n) = rw (ne-eqb (suc n) 0 (λ q. omega arith))
+
+  -- the answer that the code gives, and its number
+  pub answered-none : (r : ℕ) → r ≡ first (sheetChecks s) → r ≡ 0 → (Accepted ≡ checked s) × (0 ≡ first (sheetChecks s))
+  unfolding checked
+  answered-none r e d = (rw (none-first, ← e, eq-eqb r 0 d), sym d ∙ e)
+
+  pub answered-one : (r : ℕ) → r ≡ first (sheetChecks s) → (r ≡ 0 → ⊥) → (Refused r ≡ checked s) × (r ≡ first (sheetChecks s))
+  unfolding checked
+  answered-one r e d = (rw (none-first, ← e, ne-eqb r 0 d), e)

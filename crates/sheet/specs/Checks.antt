@@ -1,5 +1,5 @@
 -- The checks of a sheet in checking order (01, the turned-away list, 1 to 9), and the answer to a sheet.
--- Definitions only. The conditions are those of sheet_start (1 to 6) and sheet_arcs (7 to 9).
+-- Definitions only. The conditions are those of sheet_start (1 to 6), sheet_arcs (7, 8) and sheet_bonds (9).
 use Prim.Native.Nat.{ℕ, zero, suc, _+_}
 use mathlib.Core.List.{List, [], _∷_, _++_}
 use Rattle.net.specs.Tests.{pick}
@@ -7,7 +7,8 @@ use Rattle.net.specs.Checks.{Check, check, clear, first}
 use Rattle.net.specs.Journal.{transition}
 use Rattle.format.specs.Parts.{placesOf, basesOf, transitionsOf, transitionBytes}
 use Rattle.sheet_start.specs.Conditions.{wrongSize, wrongVersion, wrongCounts, wrongPairs, wrongStartPlaces, wrongStartBonds}
-use Rattle.sheet_arcs.specs.Conditions.{wrongWidth, wrongEntries, wrongBonds}
+use Rattle.sheet_arcs.specs.Conditions.{wrongWidth, wrongEntries}
+use Rattle.sheet_bonds.specs.Conditions.{wrongBonds}
 use Rattle.sheet.specs.declared.SheetAnswer.{SheetAnswer}
 use Rattle.sheet.specs.declared.SheetAnswer.the-variants.{Accepted, Refused}
 

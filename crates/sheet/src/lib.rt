@@ -1,19 +1,19 @@
 // Which sheets are accepted (document 01, the turned-away list, 1 to 9): the checks in order, the first that holds answered.
-// The conditions themselves are the crates sheet_start's and sheet_arcs's.
+// The conditions themselves are the crates sheet_start's (1 to 6), sheet_arcs's (7, 8) and sheet_bonds's (9).
 ghost use mathlib.Core.Path.{_≡_};
 ghost use Prim.Native.Nat.{_+_, _*_, _<_, _≤_};
 ghost use Rattle.net.specs.Checks.{first};
 ghost use Rattle.format.specs.Parts.{transitionsOf};
-ghost use Rattle.sheet.specs.Checks.{headChecks, transitionChecks, checksFrom, sheetChecks, checked};
+ghost use Rattle.sheet.specs.Checks.{headChecks, transitionChecks, checksFrom, sheetChecks, checked, sheetNumber};
 ghost use Rattle.sheet.specs.declared.SheetAnswer.{SheetAnswer};
 use format::base_count;
 use format::place_count;
 use format::transition_bytes;
 use format::transition_count;
 use net::Transition;
-use sheet_arcs::wrong_bonds;
 use sheet_arcs::wrong_entries;
 use sheet_arcs::wrong_width;
+use sheet_bonds::wrong_bonds;
 use sheet_start::wrong_counts;
 use sheet_start::wrong_pairs;
 use sheet_start::wrong_size;
@@ -103,11 +103,22 @@ fn sheet_refusal(sheet: &[u8]) -> u8
 // Accepted, or refused with the first number of document 01's list that holds. Any bytes may be handed in.
 pub fn check_sheet(sheet: &[u8]) -> SheetAnswer
     ensures { λ r. ⌜ r ≡ checked (now (sheet .entry)) ⌝ }
+    ensures { λ r. ⌜ sheetNumber r ≡ first (sheetChecks (now (sheet .entry))) ⌝ }
 {
     let refusal = sheet_refusal(sheet);
     if refusal == 0 {
         SheetAnswer::Accepted
     } else {
         SheetAnswer::Refused(refusal)
+    }
+}
+
+// The number that document 01 has for an answer; 0 for an accepted sheet.
+pub fn sheet_number(answer: SheetAnswer) -> u8
+    ensures { λ r. ⌜ r ≡ sheetNumber answer ⌝ }
+{
+    match answer {
+        SheetAnswer::Accepted => 0,
+        SheetAnswer::Refused(n) => n,
     }
 }

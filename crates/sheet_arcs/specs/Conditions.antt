@@ -1,4 +1,4 @@
--- The conditions under which a sheet is turned away for one of its transitions (01, the turned-away list, 7 to 9).
+-- The conditions under which a sheet is turned away for a transition's length or entries (01, the turned-away list, 7 and 8).
 -- Definitions only. Each is a test of that transition's bytes b that passes where the sheet is refused.
 use Prim.Native.Nat.{ℕ}
 use mathlib.Core.Bool.{Bool, not, _||_}
@@ -6,7 +6,7 @@ use mathlib.Core.List.{List}
 use lib.Dec.{eqb}
 use lib.ListN.{length}
 use Rattle.net.specs.Limits.{maxEntries}
-use Rattle.net.specs.Rules.{entriesRule, arcsBondsRule}
+use Rattle.net.specs.Rules.{entriesRule}
 use Rattle.format.specs.Bytes.{outside}
 use Rattle.format.specs.Arcs.{entryCount, arcsWidth, arcsIn}
 
@@ -17,7 +17,3 @@ wrongWidth b = not (eqb (length b) (arcsWidth b)) || outside (entryCount b) maxE
 -- 8: an entry's base or place is not there (of so many places and bases), or the entries' bases do not ascend strictly.
 unfoldable pub wrongEntries : ℕ → ℕ → List ℕ → Bool
 wrongEntries places bases b = not (entriesRule places bases (arcsIn b .entries))
-
--- 9: a coupling breaks its rule.
-unfoldable pub wrongBonds : List ℕ → Bool
-wrongBonds b = not (arcsBondsRule (arcsIn b))

@@ -36,14 +36,14 @@ use net::MAX_SHEET;
 use net::MAX_TRANSITIONS;
 use net::Place;
 
-// 1
+// 1: too few bytes for a header, or too many for a sheet.
 pub fn wrong_size(sheet: &[u8]) -> bool
     ensures { λ r. ⌜ r ≡ wrongSize (now (sheet .entry)) ⌝ }
 {
     sheet.len() < HEADER_WIDTH || MAX_SHEET < sheet.len()
 }
 
-// 2
+// 2: not version 1.
 pub fn wrong_version(sheet: &[u8]) -> bool
     ensures { λ r. ⌜ r ≡ wrongVersion (now (sheet .entry)) ⌝ }
 {
@@ -51,7 +51,7 @@ pub fn wrong_version(sheet: &[u8]) -> bool
     v != 1
 }
 
-// 3
+// 3: a count of the header is not within its limit.
 pub fn wrong_counts(sheet: &[u8]) -> bool
     ensures { λ r. ⌜ r ≡ wrongCounts (now (sheet .entry)) ⌝ }
 {
@@ -96,7 +96,7 @@ fn pairs_follow(sheet: &[u8]) -> bool
     at == sheet.len()
 }
 
-// 4
+// 4: the sheet ends inside the pairs, or they break the offset rule.
 pub fn wrong_pairs(sheet: &[u8]) -> bool
     ensures { λ r. ⌜ r ≡ wrongPairs (now (sheet .entry)) ⌝ }
 {
@@ -121,7 +121,7 @@ fn places_there(bytes: &[u8], places: Place) -> bool
     true
 }
 
-// 5
+// 5: not one start place for each base, or one that is not there.
 pub fn wrong_start_places(sheet: &[u8]) -> bool
     ensures { λ r. ⌜ r ≡ wrongStartPlaces (now (sheet .entry)) ⌝ }
 {
@@ -134,7 +134,7 @@ pub fn wrong_start_places(sheet: &[u8]) -> bool
     !places_there(bytes, places)
 }
 
-// Whether the start couplings are strictly ascending as pairs.
+// Whether each start coupling is below the next, by the lower base first.
 fn start_bonds_ascend(sheet: &[u8]) -> bool
     ensures { λ r. ⌜ r ≡ ascends lessBond (startOf (now (sheet .entry)) .bonds) ⌝ }
 {
@@ -183,7 +183,7 @@ fn start_bonds_fit(sheet: &[u8]) -> bool
     true
 }
 
-// 6
+// 6: bytes that make no whole couplings, or a coupling against the rule.
 pub fn wrong_start_bonds(sheet: &[u8]) -> bool
     ensures { λ r. ⌜ r ≡ wrongStartBonds (now (sheet .entry)) ⌝ }
 {

@@ -1,0 +1,2 @@
+-- Names and laws that the proofs of this crate's functions cite.
+pub mod Tests

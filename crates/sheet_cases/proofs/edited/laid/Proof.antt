@@ -1,0 +1,47 @@
+-- `sheet_cases::edited::laid` meets its contract.
+-- Assumes nothing.
+use borrow.Author.Needs.{needs}
+use Prim.Native.Nat.{_-_, _≤_}
+use Rattle.sheet_cases.proofs.edited.laid.Statement.{statement}
+use Rattle.sheet_cases.proofs.edited.laid.Tie as tie
+
+abbrev Inv-loop : tie.InvT-loop
+Inv-loop sheet bytes₀ i₀ bytes i = i ≤ 128
+
+abbrev μ-loop : tie.MeasureT-loop
+μ-loop sheet bytes₀ i₀ bytes i = 128 - i
+
+loop-holds : tie.Need-loop-holds Inv-loop μ-loop
+loop-holds c = search needs
+
+byte-at-requires : tie.Need-byte-at-requires Inv-loop μ-loop
+byte-at-requires c κs = search needs
+
+array-write-bytes : tie.Need-array-write-bytes Inv-loop μ-loop
+array-write-bytes c = search needs
+
+add-i : tie.Need-add-i Inv-loop μ-loop
+add-i c = search needs
+
+loop-less : tie.Need-loop-less Inv-loop μ-loop
+loop-less c = search needs
+
+loop-again : tie.Need-loop-again Inv-loop μ-loop
+loop-again c = search needs
+
+returns : tie.Need-returns Inv-loop μ-loop
+returns c = search needs
+
+pub laid-spec : {M : Type 1} → statement M
+laid-spec =
+    tie.close
+    (tie.spec
+    Inv-loop
+    μ-loop
+    loop-holds
+    byte-at-requires
+    array-write-bytes
+    add-i
+    loop-less
+    loop-again
+    returns)
