@@ -3,6 +3,20 @@ use mathlib.Core.Path.{_≡_, refl, ap, sym, _∙_}
 use Prim.Native.Nat.{ℕ, suc, _+_, _-_, _*_, _<_, _≤_}
 use lib.ListN.{length, getD, take, drop, set}
 use mathlib.Core.List.{List, [], _∷_, _++_}
+use mathlib.Core.Bool.{false}
+use Rattle.net.specs.Net as Net
+use Rattle.net.specs.Net.{Arcs, arcsOf}
+use Rattle.net.specs.Firing.{misplaced, bondAbsent, bondPresent, tornApart}
+use Rattle.net.specs.declared.Transition.{Transition}
+use Rattle.format.specs.Parts.{basesOf, transitionsOf}
+use Rattle.format.specs.Arcs.{arcsIn}
+use Rattle.format.specs.NetOf.{netOf}
+use Rattle.marking.specs.Form.{markingOf}
+use Rattle.marking.specs.declared.Marking.{Marking}
+use Rattle.enabling.specs.Ready.{Ready}
+use Rattle.enabling.proofs.Readiness.{room}
+use Rattle.steps.specs.Placed.{Placed}
+use Rattle.steps.proofs.Refusals.{ready-at, on-net, refused-12, refused-13, refused-14, refused-15, refused-16, enabled}
 use borrow.Author.Needs.{needs}
 use Rattle.steps.proofs.enable_refusal.Statement.{statement}
 use Rattle.steps.proofs.enable_refusal.Tie as tie
@@ -26,6 +40,9 @@ Held a = a .before .before .before .before .before .before .args .m
 abbrev Given : tie.After-transition-bytes → Transition
 Given a = a .before .before .before .before .before .before .args .t
 
+abbrev Seen : tie.After-transition-bytes → Net.Marking
+Seen a = markingOf (basesOf (Sheet a)) (Held a)
+
 listed : (a : tie.After-transition-bytes) → Given a .0 < transitionsOf (Sheet a)
 listed a = let e = a .before .before .before .transition-count .ensures in let h = a .before .if1 .left in omega arith
 
@@ -40,8 +57,30 @@ net-test : {X : Type 0} (f : Arcs → Net.Marking → X) (a : tie.After-transiti
     ≡ f (arcsOf (netOf (Sheet a)) (Given a)) (markingOf (basesOf (Sheet a)) (Held a))
 net-test f a = on-net (Sheet a) (Held a) (Given a) _ _ (a .before .before .before .before .base-count .ensures) (a .transition-bytes .ensures) f
 
-test-13 : (c : tie.After-misplaced) → c .misplaced .result ≡ misplaced (arcsOf (netOf (Sheet (c .before))) (Given (c .before))) (markingOf (basesOf (Sheet (c .before))) (Held (c .before)))
+test-13 : (c : tie.After-misplaced) → c .misplaced .result ≡ misplaced (arcsOf (netOf (Sheet (c .before))) (Given (c .before))) (Seen (c .before))
 test-13 c = c .misplaced .ensures ∙ net-test misplaced (c .before)
+
+passed-13 : (c : tie.Else2) → misplaced (arcsOf (netOf (Sheet (c .before .before))) (Given (c .before .before))) (Seen (c .before .before)) ≡ false
+passed-13 c = sym (test-13 (c .before)) ∙ c .if2 .left
+
+test-14 : (c : tie.After-bond-absent) → c .bond-absent .result ≡ bondAbsent (arcsOf (netOf (Sheet (c .before .before .before))) (Given (c .before .before .before))) (Seen (c .before .before .before))
+test-14 c = c .bond-absent .ensures (c .before .before .before .before .before .before .before .base-count .result) ∙ net-test bondAbsent (c .before .before .before)
+
+passed-14 : (c : tie.Else3) → bondAbsent (arcsOf (netOf (Sheet (c .before .before .before .before))) (Given (c .before .before .before .before))) (Seen (c .before .before .before .before)) ≡ false
+passed-14 c = sym (test-14 (c .before)) ∙ c .if3 .left
+
+test-15 : (c : tie.After-bond-present) → c .bond-present .result
+    ≡ bondPresent (arcsOf (netOf (Sheet (c .before .before .before .before .before))) (Given (c .before .before .before .before .before))) (Seen (c .before .before .before .before .before))
+test-15 c = c .bond-present .ensures (c .before .before .before .before .before .before .before .before .before .base-count .result) ∙ net-test bondPresent (c .before .before .before .before .before)
+
+passed-15 : (c : tie.Else4) → bondPresent (arcsOf (netOf (Sheet (c .before .before .before .before .before .before))) (Given (c .before .before .before .before .before .before)))
+    (Seen (c .before .before .before .before .before .before)) ≡ false
+passed-15 c = sym (test-15 (c .before)) ∙ c .if4 .left
+
+test-16 : (c : tie.After-torn-apart) → c .torn-apart .result
+    ≡ tornApart (arcsOf (netOf (Sheet (c .before .before .before .before .before .before .before))) (Given (c .before .before .before .before .before .before .before)))
+    (Seen (c .before .before .before .before .before .before .before))
+test-16 c = c .torn-apart .ensures ∙ net-test tornApart (c .before .before .before .before .before .before .before)
 
 -- src/lib.rt:31:13
 base-count-requires : tie.Need-base-count-requires
@@ -61,7 +100,7 @@ cast-if1 c = search needs
 
 -- src/lib.rt:33:9
 returns : tie.Need-returns
-returns c = search needs
+returns c = let e = c .before .before .transition-count .ensures in let h = c .if1 .taken in refused-12 (c .before .before .before .before .before .args .sheet .now) (c .before .before .before .before .before .args .t) (markingOf (basesOf (c .before .before .before .before .before .args .sheet .now)) (c .before .before .before .before .before .args .m)) (omega arith)
 
 -- src/lib.rt:35:9
 transition-bytes-requires : tie.Need-transition-bytes-requires
@@ -69,39 +108,39 @@ transition-bytes-requires c κs = search needs
 
 -- src/lib.rt:36:8
 misplaced-requires : tie.Need-misplaced-requires
-misplaced-requires c κs = search needs
+misplaced-requires c κs = ready-of c
 
 -- src/lib.rt:37:9
 returns-2 : tie.Need-returns-2
-returns-2 c = search needs
+returns-2 c = refused-13 (Sheet (c .before .before)) (Given (c .before .before)) (Seen (c .before .before)) (listed (c .before .before)) (sym (test-13 (c .before)) ∙ c .if2 .taken)
 
 -- src/lib.rt:39:8
 bond-absent-requires : tie.Need-bond-absent-requires
-bond-absent-requires c κs = search needs
+bond-absent-requires c κs = room _ _ _ (ready-of (c .before .before))
 
 -- src/lib.rt:40:9
 returns-3 : tie.Need-returns-3
-returns-3 c = search needs
+returns-3 c = refused-14 (Sheet (c .before .before .before .before)) (Given (c .before .before .before .before)) (Seen (c .before .before .before .before)) (listed (c .before .before .before .before)) (passed-13 (c .before .before)) (sym (test-14 (c .before)) ∙ c .if3 .taken)
 
 -- src/lib.rt:42:8
 bond-present-requires : tie.Need-bond-present-requires
-bond-present-requires c κs = search needs
+bond-present-requires c κs = room _ _ _ (ready-of (c .before .before .before .before))
 
 -- src/lib.rt:43:9
 returns-4 : tie.Need-returns-4
-returns-4 c = search needs
+returns-4 c = refused-15 (Sheet (c .before .before .before .before .before .before)) (Given (c .before .before .before .before .before .before)) (Seen (c .before .before .before .before .before .before)) (listed (c .before .before .before .before .before .before)) (passed-13 (c .before .before .before .before)) (passed-14 (c .before .before)) (sym (test-15 (c .before)) ∙ c .if4 .taken)
 
 -- src/lib.rt:45:8
 torn-apart-requires : tie.Need-torn-apart-requires
-torn-apart-requires c κs = search needs
+torn-apart-requires c κs = ready-of (c .before .before .before .before .before .before)
 
 -- src/lib.rt:46:9
 returns-5 : tie.Need-returns-5
-returns-5 c = search needs
+returns-5 c = refused-16 (Sheet (c .before .before .before .before .before .before .before .before)) (Given (c .before .before .before .before .before .before .before .before)) (Seen (c .before .before .before .before .before .before .before .before)) (listed (c .before .before .before .before .before .before .before .before)) (passed-13 (c .before .before .before .before .before .before)) (passed-14 (c .before .before .before .before)) (passed-15 (c .before .before)) (sym (test-16 (c .before)) ∙ c .if5 .taken)
 
 -- src/lib.rt:27:1
 returns-6 : tie.Need-returns-6
-returns-6 c = search needs
+returns-6 c = enabled (Sheet (c .before .before .before .before .before .before .before .before)) (Given (c .before .before .before .before .before .before .before .before)) (Seen (c .before .before .before .before .before .before .before .before)) (listed (c .before .before .before .before .before .before .before .before)) (passed-13 (c .before .before .before .before .before .before)) (passed-14 (c .before .before .before .before)) (passed-15 (c .before .before)) (sym (test-16 (c .before)) ∙ c .if5 .left)
 
 pub enable-refusal-spec : {M : Type 1} → statement M
 enable-refusal-spec =

@@ -3,6 +3,9 @@ use mathlib.Core.Path.{_≡_, refl, ap, sym, _∙_}
 use Prim.Native.Nat.{ℕ, suc, _+_, _-_, _*_, _<_, _≤_}
 use lib.ListN.{length, getD, take, drop, set}
 use mathlib.Core.List.{List, [], _∷_, _++_}
+use Rattle.net.specs.Firing.{moved}
+use Rattle.marking.specs.Form.{markingOf, flags}
+use Rattle.steps.proofs.Refusals.{arcs-at, ready-at}
 use borrow.Author.Needs.{needs}
 use Rattle.steps.proofs.moved_by.Statement.{statement}
 use Rattle.steps.proofs.moved_by.Tie as tie
@@ -26,11 +29,14 @@ transition-bytes-requires c κs = search needs
 
 -- src/lib.rt:58:5
 moved-bases-requires : tie.Need-moved-bases-requires
-moved-bases-requires c κs = ?rmoved-bases-requires
+moved-bases-requires c κs = ready-at _ _ _ _ _ (c .before .base-count .ensures) (c .transition-bytes .ensures) (c .before .before .before .pre .0) (c .before .before .before .pre .1)
 
 -- src/lib.rt:52:1
 returns : tie.Need-returns
-returns c = ?rreturns
+returns c =
+    let n = c .before .before .base-count .ensures in
+    let t = arcs-at _ (c .before .before .before .before .args .m) (c .before .before .before .before .args .t) _ _ n (c .before .transition-bytes .ensures) in
+    c .moved-bases .ensures ∙ (λ i. flags (moved (n i) (t i) (markingOf (n i) (c .before .before .before .before .args .m))))
 
 pub moved-by-spec : {M : Type 1} → statement M
 moved-by-spec =
