@@ -4,17 +4,19 @@ ghost use mathlib.Core.Path.{_≡_};
 ghost use Prim.Native.Nat.{_<_};
 ghost use Rattle.net.specs.Checks.{first};
 ghost use Rattle.net.specs.Net.{arcsOf};
-ghost use Rattle.net.specs.Firing.{moved};
+ghost use Rattle.net.specs.Firing.{moved, fire, undo};
 ghost use Rattle.net.specs.Journal.{enableChecks};
 ghost use Rattle.format.specs.Parts.{basesOf, transitionsOf};
 ghost use Rattle.format.specs.NetOf.{netOf};
-ghost use Rattle.marking.specs.Form.{markingOf, flags};
+ghost use Rattle.marking.specs.Form.{markingOf, laid, flags};
 ghost use Rattle.steps.specs.Placed.{Placed};
 use enabling::bond_absent;
 use enabling::bond_present;
 use enabling::misplaced;
 use enabling::moved_bases;
 use enabling::torn_apart;
+use engine::fire;
+use engine::undo;
 use format::base_count;
 use format::transition_bytes;
 use format::transition_count;
@@ -56,4 +58,24 @@ pub fn moved_by(sheet: &[u8], m: Marking, t: Transition) -> [bool; MAX_BASES]
     let n = base_count(sheet) as usize;
     let step = transition_bytes(sheet, t);
     moved_bases(step, n, m)
+}
+
+// The marking after the transition is fired.
+pub fn fired(sheet: &[u8], m: Marking, t: Transition) -> Marking
+    requires { ⌜ Placed (now sheet) m × (t .0 < transitionsOf (now sheet)) ⌝ }
+    ensures { λ r. ⌜ r ≡ laid (fire (basesOf (now (sheet .entry))) (arcsOf (netOf (now (sheet .entry))) t) (markingOf (basesOf (now (sheet .entry))) m)) ⌝ }
+{
+    let n = base_count(sheet) as usize;
+    let step = transition_bytes(sheet, t);
+    fire(step, n, m)
+}
+
+// The marking after the firing of the transition that moved those bases is taken back.
+pub fn undone(sheet: &[u8], m: Marking, t: Transition, moved: [bool; MAX_BASES]) -> Marking
+    requires { ⌜ Placed (now sheet) m × (t .0 < transitionsOf (now sheet)) ⌝ }
+    ensures { λ r. ⌜ r ≡ laid (undo (basesOf (now (sheet .entry))) (arcsOf (netOf (now (sheet .entry))) t) moved (markingOf (basesOf (now (sheet .entry))) m)) ⌝ }
+{
+    let n = base_count(sheet) as usize;
+    let step = transition_bytes(sheet, t);
+    undo(step, n, m, moved)
 }

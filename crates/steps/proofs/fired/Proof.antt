@@ -1,0 +1,43 @@
+use native.Mathlib.Omega.{arith}
+use mathlib.Core.Path.{_≡_, refl, ap, sym, _∙_}
+use Prim.Native.Nat.{ℕ, suc, _+_, _-_, _*_, _<_, _≤_}
+use lib.ListN.{length, getD, take, drop, set}
+use mathlib.Core.List.{List, [], _∷_, _++_}
+use Rattle.net.specs.Firing.{fire}
+use Rattle.marking.specs.Form.{markingOf, laid}
+use Rattle.steps.proofs.Refusals.{arcs-at, ready-at}
+use borrow.Author.Needs.{needs}
+use Rattle.steps.proofs.fired.Statement.{statement}
+use Rattle.steps.proofs.fired.Tie as tie
+use Rattle.steps.proofs.fired.Reads as reads
+use Rattle.steps.proofs.fired.Lts as lts
+use Rattle.engine.proofs.fire.Reads as fire-reads
+use Rattle.format.proofs.base_count.Reads as base-count-reads
+use Rattle.format.proofs.transition_bytes.Reads as transition-bytes-reads
+
+-- src/lib.rt:68:13
+base-count-requires : tie.Need-base-count-requires
+base-count-requires c κs = search needs
+
+-- src/lib.rt:68:13
+cast-n : tie.Need-cast-n
+cast-n c = search needs
+
+-- src/lib.rt:69:9
+transition-bytes-requires : tie.Need-transition-bytes-requires
+transition-bytes-requires c κs = search needs
+
+-- src/lib.rt:70:5
+fire-requires : tie.Need-fire-requires
+fire-requires c κs = ready-at _ _ _ _ _ (c .before .base-count .ensures) (c .transition-bytes .ensures) (c .before .before .before .pre .0) (c .before .before .before .pre .1)
+
+-- src/lib.rt:64:1
+returns : tie.Need-returns
+returns c =
+    let n = c .before .before .base-count .ensures in
+    let t = arcs-at _ (c .before .before .before .before .args .m) (c .before .before .before .before .args .t) _ _ n (c .before .transition-bytes .ensures) in
+    c .fire .ensures ∙ (λ i. laid (fire (n i) (t i) (markingOf (n i) (c .before .before .before .before .args .m))))
+
+pub fired-spec : {M : Type 1} → statement M
+fired-spec =
+    tie.close (tie.spec base-count-requires cast-n transition-bytes-requires fire-requires returns)

@@ -1,0 +1,43 @@
+use native.Mathlib.Omega.{arith}
+use mathlib.Core.Path.{_≡_, refl, ap, sym, _∙_}
+use Prim.Native.Nat.{ℕ, suc, _+_, _-_, _*_, _<_, _≤_}
+use lib.ListN.{length, getD, take, drop, set}
+use mathlib.Core.List.{List, [], _∷_, _++_}
+use Rattle.net.specs.Firing.{undo}
+use Rattle.marking.specs.Form.{markingOf, laid}
+use Rattle.steps.proofs.Refusals.{arcs-at, ready-at}
+use borrow.Author.Needs.{needs}
+use Rattle.steps.proofs.undone.Statement.{statement}
+use Rattle.steps.proofs.undone.Tie as tie
+use Rattle.steps.proofs.undone.Reads as reads
+use Rattle.steps.proofs.undone.Lts as lts
+use Rattle.engine.proofs.undo.Reads as undo-reads
+use Rattle.format.proofs.base_count.Reads as base-count-reads
+use Rattle.format.proofs.transition_bytes.Reads as transition-bytes-reads
+
+-- src/lib.rt:78:13
+base-count-requires : tie.Need-base-count-requires
+base-count-requires c κs = search needs
+
+-- src/lib.rt:78:13
+cast-n : tie.Need-cast-n
+cast-n c = search needs
+
+-- src/lib.rt:79:9
+transition-bytes-requires : tie.Need-transition-bytes-requires
+transition-bytes-requires c κs = search needs
+
+-- src/lib.rt:80:5
+undo-requires : tie.Need-undo-requires
+undo-requires c κs = ready-at _ _ _ _ _ (c .before .base-count .ensures) (c .transition-bytes .ensures) (c .before .before .before .pre .0) (c .before .before .before .pre .1)
+
+-- src/lib.rt:74:1
+returns : tie.Need-returns
+returns c =
+    let n = c .before .before .base-count .ensures in
+    let t = arcs-at _ (c .before .before .before .before .args .m) (c .before .before .before .before .args .t) _ _ n (c .before .transition-bytes .ensures) in
+    c .undo .ensures ∙ (λ i. laid (undo (n i) (t i) (c .before .before .before .before .args .moved) (markingOf (n i) (c .before .before .before .before .args .m))))
+
+pub undone-spec : {M : Type 1} → statement M
+undone-spec =
+    tie.close (tie.spec base-count-requires cast-n transition-bytes-requires undo-requires returns)
