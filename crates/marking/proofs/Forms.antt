@@ -1,27 +1,30 @@
 -- Laws of the struct that holds a marking: its bonds after one is put in or taken out, and its form.
 -- Assumes nothing.
 use mathlib.Core.Path.{_≡_, refl, sym, _∙_, ap}
-use mathlib.Core.Bool.{true, false, not}
+use mathlib.Core.Bool.{Bool, true, false, not, _&&_}
 use mathlib.Core.List.{List}
 use Prim.Native.Nat.{ℕ, zero, suc, _+_, _-_, _<_, _≤_}
 use native.Mathlib.Omega.{arith}
 use native.Mathlib.Numerals.{add-one}
 use lib.ListN.{length, getD, take, replicate, length-map, List·getD-append, List·getD-map}
 use lib.Seq.{getD-take, length-take-le}
+use lib.Dec.{leb}
+use borrow.Author.Tests.{leb-true, le-leb}
 use Rattle.causal.proofs.Tests.{both}
 use Rattle.net.specs.Limits.{maxBases, maxBonds}
 use Rattle.net.specs.Tests.{keep, table}
 use Rattle.net.specs.Sorted.{Ascending, put}
-use Rattle.net.specs.Net.{bond, sameBond, lessBond, hasBond}
 use Rattle.net.specs.declared.Bond.{Bond}
+use Rattle.net.proofs.Tests.{and-l, and-r}
 use Rattle.net.proofs.Tables.{length-table, table-cong, table-list}
 use Rattle.net.proofs.Bonds.{bond-order}
+use Rattle.net.specs.Net.{Marking as NetMarking, bond, sameBond, lessBond, hasBond}
 use Rattle.bonds.specs.Ends.{ends, bondsIn, rankIn}
 use Rattle.bonds.proofs.Fill.{map-table}
 use Rattle.marking.specs.declared.Marking.{Marking}
 use Rattle.marking.specs.Shift.{slot, gap}
-use Rattle.marking.specs.Form.{padded, los, his, bondsOf, withBonds, InOrder, zeroFrom}
-use Rattle.marking.proofs.Padding.{zero-padded}
+use Rattle.marking.specs.Form.{padded, los, his, bondsOf, markingOf, withBonds, InOrder, laid, zeroFrom, inForm}
+use Rattle.marking.proofs.Padding.{zero-padded, take-padded, padded-zero}
 use Rattle.marking.proofs.Shifts.{slot-map, gap-map, put-table, put-present, keep-table, keep-absent}
 
 -- ---- one bond more
@@ -138,3 +141,29 @@ module _ (m : Marking) (S : Sized m) where
       let u : m .lo ≡ padded maxBonds (los (bondsOf m)) = zero-padded (m .lo) (m .count) maxBonds (S .lo) h a ∙ ap (padded maxBonds) (sym p) in
       let v : m .hi ≡ padded maxBonds (his (bondsOf m)) = zero-padded (m .hi) (m .count) maxBonds (S .hi) h b ∙ ap (padded maxBonds) (sym q) in
       λ i. record { places = m .places; count = c i; lo = u i; hi = v i }
+
+  pub form-laid : (n : ℕ) → n ≤ maxBases → inForm n m ≡ true → m ≡ laid (markingOf n m)
+  form-laid n h f =
+      let a : m .count ≤ maxBonds = leb-true (m .count) maxBonds (and-l (leb (m .count) maxBonds) behind f) in
+      let b : behind ≡ true = and-r (leb (m .count) maxBonds) behind f in
+      let c : (zeroFrom (m .count) (m .hi) && zeroFrom n (m .places)) ≡ true = and-r (zeroFrom (m .count) (m .lo)) (zeroFrom (m .count) (m .hi) && zeroFrom n (m .places)) b in
+      let e : m ≡ withBonds m (bondsOf m) = zeros-form a (and-l (zeroFrom (m .count) (m .lo)) (zeroFrom (m .count) (m .hi) && zeroFrom n (m .places)) b)
+      (and-l (zeroFrom (m .count) (m .hi)) (zeroFrom n (m .places)) c) in
+      let p : m .places ≡ padded maxBases (take n (m .places)) = zero-padded (m .places) n maxBases (S .places) h (and-r (zeroFrom (m .count) (m .hi)) (zeroFrom n (m .places)) c) in
+      λ i. record { places = p i; count = e i .count; lo = e i .lo; hi = e i .hi }
+    where
+      behind : Bool
+      behind = zeroFrom (m .count) (m .lo) && (zeroFrom (m .count) (m .hi) && zeroFrom n (m .places))
+
+-- the struct that holds a marking is in its form, and holds that marking
+module _ (s : NetMarking) (n : ℕ) (size : length (s .places) ≡ n) where
+  pub marking-laid : markingOf n (laid s) ≡ s
+  marking-laid = λ i. record { places = take-padded (s .places) maxBases n size i; bonds = bonds-padded (s .bonds) maxBonds i }
+
+  pub laid-in-form : length (s .bonds) ≤ maxBonds → inForm n (laid s) ≡ true
+  laid-in-form h = rw (
+    le-leb (length (s .bonds)) maxBonds h,
+    padded-zero (los (s .bonds)) maxBonds (length (s .bonds)) (length-map (s .bonds) (λ (b : Bond). b .lo)),
+    padded-zero (his (s .bonds)) maxBonds (length (s .bonds)) (length-map (s .bonds) (λ (b : Bond). b .hi)),
+    padded-zero (s .places) maxBases n size,
+  )

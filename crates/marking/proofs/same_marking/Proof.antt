@@ -1,0 +1,28 @@
+-- `marking::same_marking` meets its contract.
+-- Assumes nothing.
+use native.Mathlib.Omega.{arith}
+use borrow.Author.Needs.{needs}
+use Rattle.marking.proofs.Same.{counts-differ, parts-same}
+use Rattle.marking.proofs.same_marking.Tie as tie
+use Rattle.marking.proofs.same_marking.Statement.{statement}
+
+returns : tie.Need-returns
+returns c = counts-differ (c .before .args .n) (c .before .args .t2) (c .before .args .t3) (c .if1 .taken)
+
+same-bytes-requires : tie.Need-same-bytes-requires
+same-bytes-requires c κs = search needs
+
+same-bytes-requires-2 : tie.Need-same-bytes-requires-2
+same-bytes-requires-2 c κs = search needs
+
+same-bytes-requires-3 : tie.Need-same-bytes-requires-3
+same-bytes-requires-3 c κs = search needs
+
+returns-2 : tie.Need-returns-2
+returns-2 c = let s = (c .before .before .before .before .before .before .before .before .before .before .before .before .before .before .before .before .before .before .before .before .before .before) in
+    parts-same (s .args .n) (s .args .t2) (s .args .t3) (c .before .before .before .before .before .before .before .before .before .before .before .before .before .before .before .before .before .before .before .before .before .if1 .left) (omega arith) (omega arith) (omega arith) (omega arith) _ _ _ (c .before .before .before .before .before .before .before .before .before .before .before .before .before .before .same-bytes .ensures) (c .before .before .before .before .before .before .before .same-bytes2 .ensures) (c .same-bytes3 .ensures)
+
+pub same-marking-spec : {M : Type 1} → statement M
+same-marking-spec =
+    tie.close
+    (tie.spec returns same-bytes-requires same-bytes-requires-2 same-bytes-requires-3 returns-2)

@@ -1,0 +1,2 @@
+-- What reading a sheet's start needs.
+pub mod Start
