@@ -1,4 +1,5 @@
 -- Laws of live firings in an array.
 pub mod Lists
 pub mod Rest
+pub mod Same
 pub mod Changes

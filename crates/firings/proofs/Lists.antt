@@ -13,8 +13,6 @@ use Rattle.causal.specs.Lists.{Mem}
 use lib.Dec.{ltb}
 use Rattle.net.specs.Tests.{pick, all, table}
 use Rattle.marking.specs.Shift.{gap}
-use Rattle.net.specs.Net.{bond}
-use Rattle.net.specs.declared.Bond.{Bond}
 use Rattle.net.proofs.Tests.{and-i}
 
 module _ {X : Type 0} where
@@ -73,12 +71,6 @@ module _ {X Y : Type 0} where
   table-back g f d (x ∷ xs) r h =
       let rest = table-back g f d xs r (λ y m. h y (inr m)) in
       λ i. h x (inl refl) i ∷ rest i
-
--- bonds whose ends were stored in two lists are read back
-pub bonds-back : (bs : List Bond) (r s : List ℕ)
-    → table (length bs) (λ i. bond (getD (map (λ (b : Bond). b .lo) bs ++ r) i 0) (getD (map (λ (b : Bond). b .hi) bs ++ s) i 0)) ≡ bs
-bonds-back [] r s = refl
-bonds-back (b ∷ bs) r s = let rest = bonds-back bs r s in λ i. b ∷ rest i
 
 -- reading a list with a gap
 pub gap-read : {X : Type 0} (l : List X) (d : X) (k i n : ℕ) → n ≡ pick (ltb i k) i (i + 1) → getD l n d ≡ gap k (λ j. getD l j d) i

@@ -14,6 +14,16 @@ use Rattle.net.proofs.Tables.{length-table, getD-table}
 use Rattle.firings.specs.Form.{climbs}
 
 module _ {X : Type 0} (t : X → Bool) where
+  -- one turn: the element at i is gathered
+  pub rest-turn : (l : List X) (d : X) (i : ℕ) (w ok : Bool) → i < length l → w ≡ (ok && all t (drop i l)) → w ≡ ((ok && t (getD l i d)) && all t (drop (i + 1) l))
+  rest-turn l d i w ok h e =
+      e ∙ ap (λ (k : List X). ok && all t k) (drop-cons l i d h) ∙ sym (and-assoc ok (t (getD l i d)) (all t (drop (suc i) l)))
+      ∙ ap (λ (n : ℕ). (ok && t (getD l i d)) && all t (drop n l)) (sym (add-one i))
+
+  -- the end: nothing is left
+  pub rest-end : (l : List X) (i : ℕ) (w ok : Bool) → length l ≤ i → w ≡ (ok && all t (drop i l)) → ok ≡ w
+  rest-end l i w ok h e = sym (e ∙ ap (λ (k : List X). ok && all t k) (drop-of-length-le l h) ∙ and-true ok)
+
   -- one turn of a loop that gathers from the front
   pub taken-turn : (l : List X) (d : X) (i : ℕ) (ok : Bool) → i < length l → ok ≡ all t (take i l) → (ok && t (getD l i d)) ≡ all t (take (i + 1) l)
   taken-turn l d i ok h e = sym (ap (λ (n : ℕ). all t (take n l)) (add-one i) ∙ ap (all t) (take-suc l i d h) ∙ all-append t (take i l) (getD l i d ∷ [])

@@ -16,34 +16,13 @@ use Rattle.net.specs.Net as Net
 use Rattle.net.specs.Journal.{LiveLine, Journal}
 use Rattle.net.specs.declared.Bond.{Bond}
 use Rattle.net.proofs.Tests.{and-i, all-i}
-use Rattle.marking.specs.Form.{markingOf, laid, inForm, zeroFrom, padded, los, his}
+use Rattle.marking.proofs.Forms.{marking-laid, laid-in-form}
 use Rattle.firings.specs.Lines.{past, lineOf, noFiring, firingOf}
 use Rattle.firings.specs.Form.{unset, isNoFiring}
 use Rattle.session.specs.Records.{journalOf, recordOf, recordInForm}
 use Rattle.firings.specs.declared.Firing.{Firing}
 use Rattle.session.specs.declared.Record.{Record}
-use Rattle.firings.proofs.Lists.{all-replicate, all-map, table-back, bonds-back}
-
--- ---- a marking
-
-module _ (n : ℕ) (s : Net.Marking) (size : length (s .places) ≡ n) where
-  pub marking-back : markingOf n (laid s) ≡ s
-  marking-back = λ i. record {
-    places = take-at (s .places) (replicate (maxBases - length (s .places)) 0) n size i;
-    bonds = bonds-back (s .bonds) (replicate (maxBonds - length (map (λ (b : Bond). b .lo) (s .bonds))) 0) (replicate (maxBonds - length (map (λ (b : Bond). b .hi) (s .bonds))) 0) i;
-  }
-
-  pub laid-form : length (s .bonds) ≤ maxBonds → inForm n (laid s) ≡ true
-  laid-form h =
-      rw (
-        le-leb (length (s .bonds)) maxBonds h,
-        drop-at (s .places) (replicate (maxBases - length (s .places)) 0) n size,
-        all-replicate (λ (x : ℕ). eqb x 0) (maxBases - length (s .places)) 0 refl,
-        drop-at (map (λ (b : Bond). b .lo) (s .bonds)) (replicate (maxBonds - length (map (λ (b : Bond). b .lo) (s .bonds))) 0) (length (s .bonds)) (length-map (s .bonds) (λ (b : Bond). b .lo)),
-        all-replicate (λ (x : ℕ). eqb x 0) (maxBonds - length (map (λ (b : Bond). b .lo) (s .bonds))) 0 refl,
-        drop-at (map (λ (b : Bond). b .hi) (s .bonds)) (replicate (maxBonds - length (map (λ (b : Bond). b .hi) (s .bonds))) 0) (length (s .bonds)) (length-map (s .bonds) (λ (b : Bond). b .hi)),
-        all-replicate (λ (x : ℕ). eqb x 0) (maxBonds - length (map (λ (b : Bond). b .hi) (s .bonds))) 0 refl,
-      )
+use Rattle.firings.proofs.Lists.{all-replicate, all-map, table-back}
 
 -- ---- a journal
 
@@ -61,7 +40,7 @@ module _ (n : ℕ) (j : Journal) (F : Fits n j) where
   pub journal-back : journalOf n (recordOf j) ≡ j
   unfolding recordOf
   journal-back = λ i. record {
-    marking = marking-back n (j .marking) (F .places) i;
+    marking = marking-laid (j .marking) n (F .places) i;
     lines = table-back firingOf (lineOf n) past (j .lines) (replicate (maxLive - length (j .lines)) noFiring) line-back i;
   }
 
@@ -72,7 +51,7 @@ module _ (n : ℕ) (j : Journal) (F : Fits n j) where
   unfolding recordOf recordInForm
   record-form =
       rw (
-        laid-form n (j .marking) (F .places) (F .bonds),
+        laid-in-form (j .marking) n (F .places) (F .bonds),
         le-leb (length (j .lines)) maxLive (F .lines),
         take-at (map firingOf (j .lines)) (replicate (maxLive - length (j .lines)) noFiring) (length (j .lines)) (length-map (j .lines) firingOf),
         drop-at (map firingOf (j .lines)) (replicate (maxLive - length (j .lines)) noFiring) (length (j .lines)) (length-map (j .lines) firingOf),

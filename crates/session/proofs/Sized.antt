@@ -17,8 +17,9 @@ use Rattle.net.specs.Journal.{LiveLine, Journal, key}
 use Rattle.net.specs.declared.Bond.{Bond}
 use Rattle.net.proofs.Tests.{and-l, and-r, all-e}
 use Rattle.net.proofs.Tables.{length-table, table-cong}
-use Rattle.marking.specs.Form.{bondsOf, markingOf, laid, inForm, zeroFrom, padded}
-use Rattle.marking.specs.declared.Marking.{Marking}
+use Rattle.marking.specs.Form.{inForm}
+use Rattle.marking.proofs.Forms as SizedMarking
+use Rattle.marking.proofs.Forms.{form-laid}
 use Rattle.firings.specs.Lines.{past, lineOf, linesIn, noFiring, firingOf, firingsOf}
 use Rattle.firings.specs.Form.{unset, isNoFiring}
 use Rattle.session.specs.Records.{journalOf, recordOf, recordInForm}
@@ -26,38 +27,10 @@ use Rattle.firings.specs.declared.Firing.{Firing}
 use Rattle.session.specs.declared.Record.{Record}
 use Rattle.firings.proofs.Lists.{padded-back, table-take, mem-take, mem-of-take, mem-of-drop, map-table, same-replicate}
 
--- ---- a marking
-
-pub record SizedMarking (m : Marking) : Type 0 where
-  pub places : length (m .places) ≡ maxBases
-  pub lo : length (m .lo) ≡ maxBonds
-  pub hi : length (m .hi) ≡ maxBonds
-
-zero-e : (k : ℕ) (l : List ℕ) → zeroFrom k l ≡ true → (x : ℕ) → Mem x (drop k l) → x ≡ 0
-zero-e k l h x m = eqb-true x 0 (all-e (λ (y : ℕ). eqb y 0) (drop k l) h x m)
-
--- one array of ends
-ends-back : (f : Bond → ℕ) (g : ℕ → Bond) (l : List ℕ) (k : ℕ) → ((i : ℕ) → f (g i) ≡ getD l i 0) → length l ≡ maxBonds → k ≤ maxBonds → zeroFrom k l ≡ true
-    → padded maxBonds (map f (table k g)) ≡ l
-ends-back f g l k e size h z =
-    let same : map f (table k g) ≡ take k l = map-table f k g ∙ table-cong k (λ i. f (g i)) (λ i. getD l i 0) (λ i _. e i) ∙ table-take k l 0 (rw size h) in
-    rw same (padded-back maxBonds k 0 l size h (zero-e k l z))
-
-pub marking-laid : (n : ℕ) (m : Marking) → SizedMarking m → n ≤ maxBases → inForm n m ≡ true → m ≡ laid (markingOf n m)
-marking-laid n m S few h =
-    let count : m .count ≤ maxBonds = leb-true (m .count) maxBonds (and-l _ _ h) in
-    let h₁ = and-r (leb (m .count) maxBonds) _ h in
-    let h₂ = and-r (zeroFrom (m .count) (m .lo)) _ h₁ in
-    let ps = padded-back maxBases n 0 (m .places) (S .places) few (zero-e n (m .places) (and-r (zeroFrom (m .count) (m .hi)) _ h₂)) in
-    let cs = length-table (m .count) (λ i. bond (getD (m .lo) i 0) (getD (m .hi) i 0)) in
-    let ls = ends-back (λ (b : Bond). b .lo) (λ i. bond (getD (m .lo) i 0) (getD (m .hi) i 0)) (m .lo) (m .count) (λ i. refl) (S .lo) count (and-l _ _ h₁) in
-    let hs = ends-back (λ (b : Bond). b .hi) (λ i. bond (getD (m .lo) i 0) (getD (m .hi) i 0)) (m .hi) (m .count) (λ i. refl) (S .hi) count (and-l _ _ h₂) in
-    λ i. record { places = sym ps i; count = sym cs i; lo = sym ls i; hi = sym hs i }
-
 -- ---- a record
 
 pub record Sized (r : Record) : Type 0 where
-  pub marking : SizedMarking (r .marking)
+  pub marking : SizedMarking.Sized (r .marking)
   pub firings : length (r .firings) ≡ maxLive
   pub flags : (f : Firing) → Mem f (r .firings) → length (f .moved) ≡ maxBases
 
@@ -100,4 +73,4 @@ record-laid n r S few h =
     let firings : firingsOf (linesIn n (r .live) (r .firings)) ≡ r .firings =
     ap (λ (fs : List Firing). fs ++ replicate (maxLive - length (linesIn n (r .live) (r .firings))) noFiring) lines
     ∙ ap (λ (k : ℕ). take (r .live) (r .firings) ++ replicate (maxLive - k) noFiring) (size ∙ sym taken) ∙ rest in
-    λ i. record { marking = marking-laid n (r .marking) (S .marking) few (and-l _ _ h) i; live = sym size i; firings = sym firings i }
+    λ i. record { marking = form-laid (r .marking) (S .marking) n few (and-l _ _ h) i; live = sym size i; firings = sym firings i }

@@ -6,7 +6,7 @@ use lib.ListN.{length, getD, take, drop, set}
 use mathlib.Core.List.{List, [], _∷_, _++_}
 use mathlib.Core.Bool.{Bool, false, Bool·beq}
 use Rattle.net.specs.Tests.{sameList}
-use Rattle.form.proofs.Lists.{same-taken}
+use Rattle.firings.proofs.Same.{same-taken}
 use Rattle.firings.proofs.same_flags.Statement.{statement}
 use Rattle.firings.proofs.same_flags.Tie as tie
 use Rattle.firings.proofs.same_flags.Reads as reads

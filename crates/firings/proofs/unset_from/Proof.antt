@@ -6,7 +6,7 @@ use lib.ListN.{length, getD, take, drop, set}
 use mathlib.Core.List.{List, [], _∷_, _++_}
 use mathlib.Core.Bool.{Bool, false, not, _&&_}
 use Rattle.firings.specs.Form.{unset}
-use Rattle.form.proofs.Rest.{rest-turn, rest-end}
+use Rattle.firings.proofs.Rest.{rest-turn, rest-end}
 use Rattle.firings.proofs.unset_from.Statement.{statement}
 use Rattle.firings.proofs.unset_from.Tie as tie
 use Rattle.firings.proofs.unset_from.Reads as reads

@@ -8,7 +8,7 @@ use mathlib.Core.Bool.{Bool, _&&_}
 use Rattle.net.specs.Limits.{maxLive}
 use Rattle.firings.specs.Lines.{past}
 use Rattle.firings.specs.Form.{isNoFiring, unusedInForm}
-use Rattle.form.proofs.Rest.{rest-turn, rest-end}
+use Rattle.firings.proofs.Rest.{rest-turn, rest-end}
 use Rattle.firings.proofs.unused_in_form.Statement.{statement}
 use Rattle.firings.proofs.unused_in_form.Tie as tie
 use Rattle.firings.proofs.unused_in_form.Reads as reads

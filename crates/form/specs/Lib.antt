@@ -1,1 +1,0 @@
--- No definition of its own: a marking's form is the crate marking's, the comparisons are net's.
