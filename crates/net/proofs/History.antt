@@ -19,7 +19,7 @@ use Rattle.net.specs.Rules.{netRule}
 use Rattle.net.specs.Firing.{moved, fire, Fires}
 use Rattle.net.specs.Checks.{clear}
 use Rattle.net.specs.Journal.{LiveLine, Journal, highestLive, enableChecks, act, play, begin}
-use Rattle.net.specs.History.{sameMarking, replays, keysInOrder, linesInForm, sound}
+use Rattle.net.specs.History.{sameMarking, accepts, replays, keysInOrder, linesInForm, sound}
 use Rattle.net.specs.Claims.{StaysSound, JournalSound}
 use Rattle.net.proofs.Tests.{and-l, and-r, and-i, all-e, all-i, beq-e, beq-i, same-e, same-i}
 use Rattle.net.proofs.Bonds.{bond-eq, eq-bond}
@@ -43,8 +43,8 @@ module _ (net : Net) where
   replays-run [] s z h = same-marking s z h
   replays-run (l ∷ ls) s z h =
       let t = arcsOf net (l .transition) in
-      let F = enabled-fires net s (l .transition) (and-l (clear (enableChecks net s (l .transition))) _ h) in
-      let rest : (sameList Bool·beq (l .moved) (moved (net .bases) t s) && replays net (fire (net .bases) t s) ls z) ≡ true = and-r (clear (enableChecks net s (l .transition))) _ h in (
+      let a : accepts net s l ≡ true = and-l (accepts net s l) _ h in
+      let F = enabled-fires net s (l .transition) (and-l (clear (enableChecks net s (l .transition))) _ a) in (
         fire (net .bases) t s,
         record {
           listed = F .listed;
@@ -52,10 +52,10 @@ module _ (net : Net) where
           present = F .present;
           absent = F .absent;
           together = F .together;
-          moves-m = same-e Bool·beq beq-e (l .moved) (moved (net .bases) t s) (and-l _ _ rest);
+          moves-m = same-e Bool·beq beq-e (l .moved) (moved (net .bases) t s) (and-r (clear (enableChecks net s (l .transition))) _ a);
           gives = refl;
         },
-        replays-run ls (fire (net .bases) t s) z (and-r (sameList Bool·beq (l .moved) (moved (net .bases) t s)) _ rest),
+        replays-run ls (fire (net .bases) t s) z (and-r (accepts net s l) _ h),
       )
 
   pub run-replays : (ls : List LiveLine) (s z : Marking) → Run (Fires net) s ls z → replays net s ls z ≡ true

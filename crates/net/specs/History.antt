@@ -16,14 +16,15 @@ use Rattle.net.specs.Journal.{LiveLine, Journal, enableChecks}
 abbrev pub sameMarking : Marking → Marking → Bool
 sameMarking s z = sameList eqb (s .places) (z .places) && sameList sameBond (s .bonds) (z .bonds)
 
+-- a line is accepted on s (none of 12 to 16 holds) with the moved bases on it
+abbrev pub accepts : Net → Marking → LiveLine → Bool
+accepts net s l = clear (enableChecks net s (l .transition)) && sameList Bool·beq (l .moved) (moved (net .bases) (arcsOf net (l .transition)) s)
+
 -- The lines, run forward alone from s in this order, are each accepted with the moved bases on the line, and end in z.
 -- 17 and 18 play no part: at most 256 lines are run, with keys of their own from 1 up.
 abbrev pub replays : Net → Marking → List LiveLine → Marking → Bool
 replays net s [] z = sameMarking s z
-replays net s (l ∷ ls) z =
-    clear (enableChecks net s (l .transition))
-    && (sameList Bool·beq (l .moved) (moved (net .bases) (arcsOf net (l .transition)) s)
-    && replays net (fire (net .bases) (arcsOf net (l .transition)) s) ls z)
+replays net s (l ∷ ls) z = accepts net s l && replays net (fire (net .bases) (arcsOf net (l .transition)) s) ls z
 
 -- Keys strictly ascend, from 1 to 65,535; at most 256 firings are live.
 abbrev pub keysInOrder : List LiveLine → Bool

@@ -1,0 +1,2 @@
+-- Laws of soundness on what a record holds.
+pub mod Lines

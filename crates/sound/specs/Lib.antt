@@ -1,0 +1,2 @@
+-- When what a record holds is sound.
+pub mod Soundness

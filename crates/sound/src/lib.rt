@@ -1,0 +1,66 @@
+// Whether what a record holds is sound for a sheet (document 01, commands, record, tally; refusal 10): it has the form,
+// its keys ascend, and its firings, run forward alone from the start, are accepted and end in its marking.
+ghost use mathlib.Core.Path.{_≡_};
+ghost use mathlib.Core.Bool.{Bool, true};
+ghost use Prim.Native.Nat.{_≤_};
+ghost use Rattle.net.specs.Limits.{maxLive, maxBonds};
+ghost use Rattle.net.specs.Checks.{clear};
+ghost use Rattle.net.specs.History.{accepts, replays};
+ghost use Rattle.format.specs.Parts.{basesOf};
+ghost use Rattle.format.specs.NetOf.{netOf};
+ghost use Rattle.sheet.specs.Checks.{sheetChecks};
+ghost use Rattle.marking.specs.Form.{markingOf};
+ghost use Rattle.firings.specs.Lines.{lineOf, linesIn};
+ghost use Rattle.steps.specs.Placed.{Placed};
+ghost use Rattle.sound.specs.Soundness.{soundIn};
+use firings::keys_climb;
+use firings::same_flags;
+use firings::unused_in_form;
+use firings::used_in_form;
+use firings::Firing;
+use format::base_count;
+use marking::in_form;
+use marking::same_marking;
+use marking::Marking;
+use net::MAX_LIVE;
+use net::Transition;
+use start::start_marking;
+use steps::enable_refusal;
+use steps::fired;
+use steps::moved_by;
+
+// Whether a firing, run forward on m, is accepted and moves just its bases.
+// Callers have an accepted sheet and hold a good marking of it.
+pub fn line_accepted(sheet: &[u8], m: Marking, f: Firing) -> bool
+    requires { ⌜ Placed (now sheet) m ⌝ }
+    ensures { λ r. ⌜ r ≡ accepts (netOf (now (sheet .entry))) (markingOf (basesOf (now (sheet .entry))) m) (lineOf (basesOf (now (sheet .entry))) f) ⌝ }
+{
+    let n = base_count(sheet) as usize;
+    let t = Transition(f.transition as u16);
+    if enable_refusal(sheet, m, t) != 0 {
+        return false;
+    }
+    let moved = f.moved;
+    let expected = moved_by(sheet, m, t);
+    same_flags(moved, expected, n)
+}
+
+// Whether the live firings, run forward from m in their order, are accepted and end in the marking `end`.
+// Callers have seen that both markings are in their form and that there are no more firings than the limit.
+fn runs_to(sheet: &[u8], m: Marking, firings: [Firing; MAX_LIVE], live: usize, end: Marking) -> bool
+    requires { ⌜ Placed (now sheet) m × (live ≤ maxLive) × (end .count ≤ maxBonds) ⌝ }
+    ensures { λ r. ⌜ r ≡ replays (netOf (now (sheet .entry))) (markingOf (basesOf (now (sheet .entry))) m) (linesIn (basesOf (now (sheet .entry))) live firings) (markingOf (basesOf (now (sheet .entry))) end) ⌝ }
+{
+    let mut now_at = m;
+    let mut i = 0;
+    while i < live {
+        let f = firings[i];
+        if !line_accepted(sheet, now_at, f) {
+            return false;
+        }
+        now_at = fired(sheet, now_at, Transition(f.transition as u16));
+        i += 1;
+    }
+    let n = base_count(sheet) as usize;
+    same_marking(n, now_at, end)
+}
