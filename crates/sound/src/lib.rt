@@ -64,3 +64,23 @@ fn runs_to(sheet: &[u8], m: Marking, firings: [Firing; MAX_LIVE], live: usize, e
     let n = base_count(sheet) as usize;
     same_marking(n, now_at, end)
 }
+
+// Whether what a record holds is sound for the sheet. Callers have checked the sheet.
+pub fn is_sound(sheet: &[u8], m: Marking, firings: [Firing; MAX_LIVE], live: usize) -> bool
+    requires { ⌜ clear (sheetChecks (now sheet)) ≡ true ⌝ }
+    ensures { λ r. ⌜ r ≡ soundIn (now (sheet .entry)) m live firings ⌝ }
+{
+    let n = base_count(sheet) as usize;
+    if MAX_LIVE < live {
+        return false;
+    }
+    let formed = in_form(n, m);
+    let used = used_in_form(firings, live, n);
+    let unused = unused_in_form(firings, live);
+    let keys = keys_climb(firings, live);
+    if !(formed & (used & (unused & keys))) {
+        return false;
+    }
+    let begin = start_marking(sheet);
+    runs_to(sheet, begin, firings, live, m)
+}

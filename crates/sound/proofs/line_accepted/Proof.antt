@@ -1,0 +1,59 @@
+use native.Mathlib.Omega.{arith}
+use mathlib.Core.Path.{_≡_, refl, ap, sym, _∙_}
+use Prim.Native.Nat.{ℕ, suc, _+_, _-_, _*_, _<_, _≤_}
+use lib.ListN.{length, getD, take, drop, set}
+use mathlib.Core.List.{List, [], _∷_, _++_}
+use borrow.Author.Needs.{needs}
+use Rattle.sound.proofs.line_accepted.Statement.{statement}
+use Rattle.sound.proofs.line_accepted.Tie as tie
+use Rattle.sound.proofs.line_accepted.Reads as reads
+use Rattle.sound.proofs.line_accepted.Lts as lts
+use Rattle.firings.proofs.same_flags.Reads as same-flags-reads
+use Rattle.format.proofs.base_count.Reads as base-count-reads
+use Rattle.steps.proofs.enable_refusal.Reads as enable-refusal-reads
+use Rattle.steps.proofs.moved_by.Reads as moved-by-reads
+
+-- src/lib.rt:38:13
+base-count-requires : tie.Need-base-count-requires
+base-count-requires c κs = search needs
+
+-- src/lib.rt:38:13
+cast-n : tie.Need-cast-n
+cast-n c = search needs
+
+-- src/lib.rt:39:24
+cast-t9 : tie.Need-cast-t9
+cast-t9 c = search needs
+
+-- src/lib.rt:40:8
+enable-refusal-requires : tie.Need-enable-refusal-requires
+enable-refusal-requires c κs = search needs
+
+-- src/lib.rt:41:9
+returns : tie.Need-returns
+returns c = search needs
+
+-- src/lib.rt:44:9
+moved-by-requires : tie.Need-moved-by-requires
+moved-by-requires c κs = search needs
+
+-- src/lib.rt:45:5
+same-flags-requires : tie.Need-same-flags-requires
+same-flags-requires c κs = search needs
+
+-- src/lib.rt:34:1
+returns-2 : tie.Need-returns-2
+returns-2 c = search needs
+
+pub line-accepted-spec : {M : Type 1} → statement M
+line-accepted-spec =
+    tie.close
+    (tie.spec
+    base-count-requires
+    cast-n
+    cast-t9
+    enable-refusal-requires
+    returns
+    moved-by-requires
+    same-flags-requires
+    returns-2)
