@@ -19,22 +19,30 @@ wrong-width-requires : tie.Need-wrong-width-requires
 wrong-width-requires c κs = search needs
 
 returns : tie.Need-returns
-returns c = refused-7 _ _ _ _ _ (c .before .before .transition-bytes .ensures) (c .before .before .before .before .place-count .ensures) (c .before .before .before .base-count .ensures) (sym (c .before .wrong-width .ensures) ∙ (c .if1 .taken))
+returns c =
+    let at : tie.After-transition-bytes = c .before .before in
+    refused-7 _ _ _ _ _ (at .transition-bytes .ensures) (at .before .before .place-count .ensures) (at .before .base-count .ensures) (sym (c .before .wrong-width .ensures) ∙ (c .if1 .taken))
 
 wrong-entries-requires : tie.Need-wrong-entries-requires
 wrong-entries-requires c κs = search needs
 
 returns-2 : tie.Need-returns-2
-returns-2 c = refused-8 _ _ _ _ _ (c .before .before .before .before .transition-bytes .ensures) (c .before .before .before .before .before .before .place-count .ensures) (c .before .before .before .before .before .base-count .ensures) (sym (c .before .before .before .wrong-width .ensures) ∙ (c .before .before .if1 .left)) (sym (c .before .wrong-entries .ensures) ∙ (c .if2 .taken))
+returns-2 c =
+    let at : tie.After-transition-bytes = c .before .before .before .before in
+    refused-8 _ _ _ _ _ (at .transition-bytes .ensures) (at .before .before .place-count .ensures) (at .before .base-count .ensures) (sym (c .before .before .before .wrong-width .ensures) ∙ (c .before .before .if1 .left)) (sym (c .before .wrong-entries .ensures) ∙ (c .if2 .taken))
 
 wrong-bonds-requires : tie.Need-wrong-bonds-requires
 wrong-bonds-requires c κs = search needs
 
 returns-3 : tie.Need-returns-3
-returns-3 c = refused-9 _ _ _ _ _ (c .before .before .before .before .before .before .transition-bytes .ensures) (c .before .before .before .before .before .before .before .before .place-count .ensures) (c .before .before .before .before .before .before .before .base-count .ensures) (sym (c .before .before .before .before .before .wrong-width .ensures) ∙ (c .before .before .before .before .if1 .left)) (sym (c .before .before .before .wrong-entries .ensures) ∙ (c .before .before .if2 .left)) (sym (c .before .wrong-bonds .ensures) ∙ (c .if3 .taken))
+returns-3 c =
+    let at : tie.After-transition-bytes = c .before .before .before .before .before .before in
+    refused-9 _ _ _ _ _ (at .transition-bytes .ensures) (at .before .before .place-count .ensures) (at .before .base-count .ensures) (sym (c .before .before .before .before .before .wrong-width .ensures) ∙ (c .before .before .before .before .if1 .left)) (sym (c .before .before .before .wrong-entries .ensures) ∙ (c .before .before .if2 .left)) (sym (c .before .wrong-bonds .ensures) ∙ (c .if3 .taken))
 
 returns-4 : tie.Need-returns-4
-returns-4 c = refused-none _ _ _ _ _ (c .before .before .before .before .before .before .transition-bytes .ensures) (c .before .before .before .before .before .before .before .before .place-count .ensures) (c .before .before .before .before .before .before .before .base-count .ensures) (sym (c .before .before .before .before .before .wrong-width .ensures) ∙ (c .before .before .before .before .if1 .left)) (sym (c .before .before .before .wrong-entries .ensures) ∙ (c .before .before .if2 .left)) (sym (c .before .wrong-bonds .ensures) ∙ (c .if3 .left))
+returns-4 c =
+    let at : tie.After-transition-bytes = c .before .before .before .before .before .before in
+    refused-none _ _ _ _ _ (at .transition-bytes .ensures) (at .before .before .place-count .ensures) (at .before .base-count .ensures) (sym (c .before .before .before .before .before .wrong-width .ensures) ∙ (c .before .before .before .before .if1 .left)) (sym (c .before .before .before .wrong-entries .ensures) ∙ (c .before .before .if2 .left)) (sym (c .before .wrong-bonds .ensures) ∙ (c .if3 .left))
 
 pub transition-refusal-spec : {M : Type 1} → statement M
 transition-refusal-spec =

@@ -48,8 +48,10 @@ base-before-requires : tie.Need-base-before-requires Inv-loop μ-loop
 base-before-requires c κs = search needs
 
 returns : tie.Need-returns Inv-loop μ-loop
-returns c = let b : List ℕ = (c .before .before .before .before .before .before .before .before .args .b .now) in
-    ascends-left baseBefore (nthEntry b) (entryCount b) (c .before .before .before .before .before .loop .i) (omega arith) _ _ (c .before .before .before .entry .ensures) (c .before .before .entry2 .ensures) (sym (c .before .base-before .ensures) ∙ not-true _ (c .if1 .taken))
+returns c =
+    let at : tie.At-loop Inv-loop μ-loop = c .before .before .before .before .before in
+    let b : List ℕ = at .before .before .before .args .b .now in
+    ascends-left baseBefore (nthEntry b) (entryCount b) (at .loop .i) (omega arith) _ _ (c .before .before .before .entry .ensures) (c .before .before .entry2 .ensures) (sym (c .before .base-before .ensures) ∙ not-true _ (c .if1 .taken))
 
 add-i : tie.Need-add-i Inv-loop μ-loop
 add-i c = search needs
@@ -58,11 +60,12 @@ loop-less : tie.Need-loop-less Inv-loop μ-loop
 loop-less c = search needs
 
 loop-again : tie.Need-loop-again Inv-loop μ-loop
-loop-again c = (
-  search needs,
-  search needs,
-  ascends-on baseBefore (nthEntry (c .before .before .before .before .before .before .before .before .args .b .now)) (c .before .before .before .before .before .loop .i) (c .before .before .before .before .before .loop .inv .2) _ _ (c .before .before .before .entry .ensures) (c .before .before .entry2 .ensures) (sym (c .before .base-before .ensures) ∙ not-false _ (c .if1 .left)),
-)
+loop-again c =
+    let at : tie.At-loop Inv-loop μ-loop = c .before .before .before .before .before in (
+      search needs,
+      search needs,
+      ascends-on baseBefore (nthEntry (at .before .before .before .args .b .now)) (at .loop .i) (at .loop .inv .2) _ _ (c .before .before .before .entry .ensures) (c .before .before .entry2 .ensures) (sym (c .before .base-before .ensures) ∙ not-false _ (c .if1 .left)),
+    )
 
 returns-2 : tie.Need-returns-2 Inv-loop μ-loop
 returns-2 c = let b : List ℕ = (c .before .before .before .before .args .b .now) in

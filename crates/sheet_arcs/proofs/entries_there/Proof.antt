@@ -33,8 +33,11 @@ entry-there-requires : tie.Need-entry-there-requires Inv-loop μ-loop
 entry-there-requires c κs = search needs
 
 returns : tie.Need-returns Inv-loop μ-loop
-returns c = let b : List ℕ = (c .before .before .before .before .before .before .before .args .b .now) in
-    all-left (entryRule (c .before .before .before .before .before .before .before .args .places) (c .before .before .before .before .before .before .before .args .bases)) (nthEntry b) (entryCount b) (c .before .before .before .before .loop .i) (omega arith) _ (c .before .before .entry .ensures) (sym (c .before .entry-there .ensures) ∙ not-true _ (c .if1 .taken))
+returns c =
+    let at : tie.At-loop Inv-loop μ-loop = c .before .before .before .before in
+    let given = at .before .before .before .args in
+    let b : List ℕ = given .b .now in
+    all-left (entryRule (given .places) (given .bases)) (nthEntry b) (entryCount b) (at .loop .i) (omega arith) _ (c .before .before .entry .ensures) (sym (c .before .entry-there .ensures) ∙ not-true _ (c .if1 .taken))
 
 add-i : tie.Need-add-i Inv-loop μ-loop
 add-i c = search needs
@@ -43,15 +46,19 @@ loop-less : tie.Need-loop-less Inv-loop μ-loop
 loop-less c = search needs
 
 loop-again : tie.Need-loop-again Inv-loop μ-loop
-loop-again c = (
-  search needs,
-  search needs,
-  all-on (entryRule (c .before .before .before .before .before .before .before .args .places) (c .before .before .before .before .before .before .before .args .bases)) (nthEntry (c .before .before .before .before .before .before .before .args .b .now)) (c .before .before .before .before .loop .i) (c .before .before .before .before .loop .inv .2) _ (c .before .before .entry .ensures) (sym (c .before .entry-there .ensures) ∙ not-false _ (c .if1 .left)),
-)
+loop-again c =
+    let at : tie.At-loop Inv-loop μ-loop = c .before .before .before .before in
+    let given = at .before .before .before .args in (
+      search needs,
+      search needs,
+      all-on (entryRule (given .places) (given .bases)) (nthEntry (given .b .now)) (at .loop .i) (at .loop .inv .2) _ (c .before .before .entry .ensures) (sym (c .before .entry-there .ensures) ∙ not-false _ (c .if1 .left)),
+    )
 
 returns-2 : tie.Need-returns-2 Inv-loop μ-loop
-returns-2 c = let b : List ℕ = (c .before .before .before .before .args .b .now) in
-    all-end (entryRule (c .before .before .before .before .args .places) (c .before .before .before .before .args .bases)) (nthEntry b) (entryCount b) (c .before .loop .i) (omega arith) (c .before .loop .inv .2)
+returns-2 c =
+    let given = c .before .before .before .before .args in
+    let b : List ℕ = given .b .now in
+    all-end (entryRule (given .places) (given .bases)) (nthEntry b) (entryCount b) (c .before .loop .i) (omega arith) (c .before .loop .inv .2)
 
 pub entries-there-spec : {M : Type 1} → statement M
 entries-there-spec =

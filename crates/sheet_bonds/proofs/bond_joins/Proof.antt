@@ -36,8 +36,11 @@ starts-requires : tie.Need-starts-requires Inv-loop μ-loop
 starts-requires c κs = search needs
 
 returns-2 : tie.Need-returns-2 Inv-loop μ-loop
-returns-2 c = let b : List ℕ = (c .before .before .before .before .before .before .before .before .before .args .b .now) in
-    any-left (starting (c .before .before .before .before .before .before .before .before .before .args .out) (arcsIn b .entries) (c .before .before .before .before .before .before .before .before .before .args .x)) (nthEntry b) (entryCount b) (c .before .before .before .before .loop .i) (omega arith) _ (c .before .before .entry .ensures) (sym (c .before .starts .ensures) ∙ (c .if2 .taken)) ∙ rw (lt-ltb _ _ (c .before .before .before .before .loop .inv .2))
+returns-2 c =
+    let at : tie.At-loop Inv-loop μ-loop = c .before .before .before .before in
+    let given = at .before .before .before .before .before .args in
+    let b : List ℕ = given .b .now in
+    any-left (starting (given .out) (arcsIn b .entries) (given .x)) (nthEntry b) (entryCount b) (at .loop .i) (omega arith) _ (c .before .before .entry .ensures) (sym (c .before .starts .ensures) ∙ (c .if2 .taken)) ∙ rw (lt-ltb _ _ (at .loop .inv .2))
 
 add-i : tie.Need-add-i Inv-loop μ-loop
 add-i c = search needs
@@ -46,12 +49,17 @@ loop-less : tie.Need-loop-less Inv-loop μ-loop
 loop-less c = search needs
 
 loop-again : tie.Need-loop-again Inv-loop μ-loop
-loop-again c = let b : List ℕ = (c .before .before .before .before .before .before .before .before .before .args .b .now) in
-    (search needs, search needs, (c .before .before .before .before .loop .inv .2), any-on (starting (c .before .before .before .before .before .before .before .before .before .args .out) (arcsIn b .entries) (c .before .before .before .before .before .before .before .before .before .args .x)) (nthEntry b) (c .before .before .before .before .loop .i) (c .before .before .before .before .loop .inv .3) _ (c .before .before .entry .ensures) (sym (c .before .starts .ensures) ∙ (c .if2 .left)))
+loop-again c =
+    let at : tie.At-loop Inv-loop μ-loop = c .before .before .before .before in
+    let given = at .before .before .before .before .before .args in
+    let b : List ℕ = given .b .now in
+    (search needs, search needs, (at .loop .inv .2), any-on (starting (given .out) (arcsIn b .entries) (given .x)) (nthEntry b) (at .loop .i) (at .loop .inv .3) _ (c .before .before .entry .ensures) (sym (c .before .starts .ensures) ∙ (c .if2 .left)))
 
 returns-3 : tie.Need-returns-3 Inv-loop μ-loop
-returns-3 c = let b : List ℕ = (c .before .before .before .before .before .before .args .b .now) in
-    any-end (starting (c .before .before .before .before .before .before .args .out) (arcsIn b .entries) (c .before .before .before .before .before .before .args .x)) (nthEntry b) (entryCount b) (c .before .loop .i) (omega arith) (c .before .loop .inv .3) ∙ rw (lt-ltb _ _ (c .before .loop .inv .2))
+returns-3 c =
+    let given = c .before .before .before .before .before .before .args in
+    let b : List ℕ = given .b .now in
+    any-end (starting (given .out) (arcsIn b .entries) (given .x)) (nthEntry b) (entryCount b) (c .before .loop .i) (omega arith) (c .before .loop .inv .3) ∙ rw (lt-ltb _ _ (c .before .loop .inv .2))
 
 pub bond-joins-spec : {M : Type 1} → statement M
 bond-joins-spec =

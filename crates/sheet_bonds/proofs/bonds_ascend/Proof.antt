@@ -48,8 +48,11 @@ bond-before-requires : tie.Need-bond-before-requires Inv-loop μ-loop
 bond-before-requires c κs = search needs
 
 returns : tie.Need-returns Inv-loop μ-loop
-returns c = let b : List ℕ = (c .before .before .before .before .before .before .before .before .args .b .now) in
-    ascends-left lessBond (nthBond b (c .before .before .before .before .before .before .before .before .args .out)) (bondCount b (c .before .before .before .before .before .before .before .before .args .out)) (c .before .before .before .before .before .loop .i) (omega arith) _ _ (c .before .before .before .nth-bond .ensures) (c .before .before .nth-bond2 .ensures) (sym (c .before .bond-before .ensures) ∙ not-true _ (c .if1 .taken))
+returns c =
+    let at : tie.At-loop Inv-loop μ-loop = c .before .before .before .before .before in
+    let given = at .before .before .before .args in
+    let b : List ℕ = given .b .now in
+    ascends-left lessBond (nthBond b (given .out)) (bondCount b (given .out)) (at .loop .i) (omega arith) _ _ (c .before .before .before .nth-bond .ensures) (c .before .before .nth-bond2 .ensures) (sym (c .before .bond-before .ensures) ∙ not-true _ (c .if1 .taken))
 
 add-i : tie.Need-add-i Inv-loop μ-loop
 add-i c = search needs
@@ -58,15 +61,19 @@ loop-less : tie.Need-loop-less Inv-loop μ-loop
 loop-less c = search needs
 
 loop-again : tie.Need-loop-again Inv-loop μ-loop
-loop-again c = (
-  search needs,
-  search needs,
-  ascends-on lessBond (nthBond (c .before .before .before .before .before .before .before .before .args .b .now) (c .before .before .before .before .before .before .before .before .args .out)) (c .before .before .before .before .before .loop .i) (c .before .before .before .before .before .loop .inv .2) _ _ (c .before .before .before .nth-bond .ensures) (c .before .before .nth-bond2 .ensures) (sym (c .before .bond-before .ensures) ∙ not-false _ (c .if1 .left)),
-)
+loop-again c =
+    let at : tie.At-loop Inv-loop μ-loop = c .before .before .before .before .before in
+    let given = at .before .before .before .args in (
+      search needs,
+      search needs,
+      ascends-on lessBond (nthBond (given .b .now) (given .out)) (at .loop .i) (at .loop .inv .2) _ _ (c .before .before .before .nth-bond .ensures) (c .before .before .nth-bond2 .ensures) (sym (c .before .bond-before .ensures) ∙ not-false _ (c .if1 .left)),
+    )
 
 returns-2 : tie.Need-returns-2 Inv-loop μ-loop
-returns-2 c = let b : List ℕ = (c .before .before .before .before .args .b .now) in
-    ascends-end lessBond (nthBond b (c .before .before .before .before .args .out)) (bondCount b (c .before .before .before .before .args .out)) (c .before .loop .i) (omega arith) (c .before .loop .inv .2)
+returns-2 c =
+    let given = c .before .before .before .before .args in
+    let b : List ℕ = given .b .now in
+    ascends-end lessBond (nthBond b (given .out)) (bondCount b (given .out)) (c .before .loop .i) (omega arith) (c .before .loop .inv .2)
 
 pub bonds-ascend-spec : {M : Type 1} → statement M
 bonds-ascend-spec =

@@ -34,8 +34,11 @@ bond-joins-requires : tie.Need-bond-joins-requires Inv-loop μ-loop
 bond-joins-requires c κs = search needs
 
 returns : tie.Need-returns Inv-loop μ-loop
-returns c = let b : List ℕ = (c .before .before .before .before .before .before .before .args .b .now) in
-    all-left (joins (sideOf (c .before .before .before .before .before .before .before .args .out)) (arcsIn b .entries)) (nthBond b (c .before .before .before .before .before .before .before .args .out)) (bondCount b (c .before .before .before .before .before .before .before .args .out)) (c .before .before .before .before .loop .i) (omega arith) _ (c .before .before .nth-bond .ensures) (sym (c .before .bond-joins .ensures) ∙ not-true _ (c .if1 .taken))
+returns c =
+    let at : tie.At-loop Inv-loop μ-loop = c .before .before .before .before in
+    let given = at .before .before .before .args in
+    let b : List ℕ = given .b .now in
+    all-left (joins (sideOf (given .out)) (arcsIn b .entries)) (nthBond b (given .out)) (bondCount b (given .out)) (at .loop .i) (omega arith) _ (c .before .before .nth-bond .ensures) (sym (c .before .bond-joins .ensures) ∙ not-true _ (c .if1 .taken))
 
 add-i : tie.Need-add-i Inv-loop μ-loop
 add-i c = search needs
@@ -44,15 +47,20 @@ loop-less : tie.Need-loop-less Inv-loop μ-loop
 loop-less c = search needs
 
 loop-again : tie.Need-loop-again Inv-loop μ-loop
-loop-again c = let b : List ℕ = (c .before .before .before .before .before .before .before .args .b .now) in (
-  search needs,
-  search needs,
-  all-on (joins (sideOf (c .before .before .before .before .before .before .before .args .out)) (arcsIn b .entries)) (nthBond b (c .before .before .before .before .before .before .before .args .out)) (c .before .before .before .before .loop .i) (c .before .before .before .before .loop .inv .2) _ (c .before .before .nth-bond .ensures) (sym (c .before .bond-joins .ensures) ∙ not-false _ (c .if1 .left)),
-)
+loop-again c =
+    let at : tie.At-loop Inv-loop μ-loop = c .before .before .before .before in
+    let given = at .before .before .before .args in
+    let b : List ℕ = given .b .now in (
+      search needs,
+      search needs,
+      all-on (joins (sideOf (given .out)) (arcsIn b .entries)) (nthBond b (given .out)) (at .loop .i) (at .loop .inv .2) _ (c .before .before .nth-bond .ensures) (sym (c .before .bond-joins .ensures) ∙ not-false _ (c .if1 .left)),
+    )
 
 returns-2 : tie.Need-returns-2 Inv-loop μ-loop
-returns-2 c = let b : List ℕ = (c .before .before .before .before .args .b .now) in
-    all-end (joins (sideOf (c .before .before .before .before .args .out)) (arcsIn b .entries)) (nthBond b (c .before .before .before .before .args .out)) (bondCount b (c .before .before .before .before .args .out)) (c .before .loop .i) (omega arith) (c .before .loop .inv .2)
+returns-2 c =
+    let given = c .before .before .before .before .args in
+    let b : List ℕ = given .b .now in
+    all-end (joins (sideOf (given .out)) (arcsIn b .entries)) (nthBond b (given .out)) (bondCount b (given .out)) (c .before .loop .i) (omega arith) (c .before .loop .inv .2)
 
 pub bonds-join-spec : {M : Type 1} → statement M
 bonds-join-spec =

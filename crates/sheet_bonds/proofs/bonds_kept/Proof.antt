@@ -33,8 +33,10 @@ has-out-bond-requires : tie.Need-has-out-bond-requires Inv-loop μ-loop
 has-out-bond-requires c κs = search needs
 
 returns : tie.Need-returns Inv-loop μ-loop
-returns c = let b : List ℕ = (c .before .before .before .before .before .before .before .args .b .now) in
-    all-left (kept b) (nthInBond b) (inCount b) (c .before .before .before .before .loop .i) (omega arith) _ (c .before .before .in-bond .ensures) (sym (c .before .has-out-bond .ensures) ∙ not-true _ (c .if1 .taken))
+returns c =
+    let at : tie.At-loop Inv-loop μ-loop = c .before .before .before .before in
+    let b : List ℕ = at .before .before .before .args .b .now in
+    all-left (kept b) (nthInBond b) (inCount b) (at .loop .i) (omega arith) _ (c .before .before .in-bond .ensures) (sym (c .before .has-out-bond .ensures) ∙ not-true _ (c .if1 .taken))
 
 add-i : tie.Need-add-i Inv-loop μ-loop
 add-i c = search needs
@@ -43,11 +45,13 @@ loop-less : tie.Need-loop-less Inv-loop μ-loop
 loop-less c = search needs
 
 loop-again : tie.Need-loop-again Inv-loop μ-loop
-loop-again c = (
-  search needs,
-  search needs,
-  all-on (kept (c .before .before .before .before .before .before .before .args .b .now)) (nthInBond (c .before .before .before .before .before .before .before .args .b .now)) (c .before .before .before .before .loop .i) (c .before .before .before .before .loop .inv .2) _ (c .before .before .in-bond .ensures) (sym (c .before .has-out-bond .ensures) ∙ not-false _ (c .if1 .left)),
-)
+loop-again c =
+    let at : tie.At-loop Inv-loop μ-loop = c .before .before .before .before in
+    let given = at .before .before .before .args in (
+      search needs,
+      search needs,
+      all-on (kept (given .b .now)) (nthInBond (given .b .now)) (at .loop .i) (at .loop .inv .2) _ (c .before .before .in-bond .ensures) (sym (c .before .has-out-bond .ensures) ∙ not-false _ (c .if1 .left)),
+    )
 
 returns-2 : tie.Need-returns-2 Inv-loop μ-loop
 returns-2 c = let b : List ℕ = (c .before .before .before .before .args .b .now) in

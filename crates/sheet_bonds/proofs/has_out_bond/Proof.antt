@@ -32,9 +32,12 @@ bonds-same-requires : tie.Need-bonds-same-requires Inv-loop μ-loop
 bonds-same-requires c κs = search needs
 
 returns : tie.Need-returns Inv-loop μ-loop
-returns c = let b : List ℕ = (c .before .before .before .before .before .before .before .args .b .now) in
-    any-left (sameBond (c .before .before .before .before .before .before .before .args .x)) (nthOutBond b) (outCount b) (c .before .before .before .before .loop .i) (omega arith) _ (c .before .before .out-bond .ensures) (sym (c .before .bonds-same .ensures) ∙ (c .if1 .taken))
-    ∙ sym (has-any sameBond (c .before .before .before .before .before .before .before .args .x) (arcsIn b .outBonds))
+returns c =
+    let at : tie.At-loop Inv-loop μ-loop = c .before .before .before .before in
+    let given = at .before .before .before .args in
+    let b : List ℕ = given .b .now in
+    any-left (sameBond (given .x)) (nthOutBond b) (outCount b) (at .loop .i) (omega arith) _ (c .before .before .out-bond .ensures) (sym (c .before .bonds-same .ensures) ∙ (c .if1 .taken))
+    ∙ sym (has-any sameBond (given .x) (arcsIn b .outBonds))
 
 add-i : tie.Need-add-i Inv-loop μ-loop
 add-i c = search needs
@@ -43,15 +46,19 @@ loop-less : tie.Need-loop-less Inv-loop μ-loop
 loop-less c = search needs
 
 loop-again : tie.Need-loop-again Inv-loop μ-loop
-loop-again c = (
-  search needs,
-  search needs,
-  any-on (sameBond (c .before .before .before .before .before .before .before .args .x)) (nthOutBond (c .before .before .before .before .before .before .before .args .b .now)) (c .before .before .before .before .loop .i) (c .before .before .before .before .loop .inv .2) _ (c .before .before .out-bond .ensures) (sym (c .before .bonds-same .ensures) ∙ (c .if1 .left)),
-)
+loop-again c =
+    let at : tie.At-loop Inv-loop μ-loop = c .before .before .before .before in
+    let given = at .before .before .before .args in (
+      search needs,
+      search needs,
+      any-on (sameBond (given .x)) (nthOutBond (given .b .now)) (at .loop .i) (at .loop .inv .2) _ (c .before .before .out-bond .ensures) (sym (c .before .bonds-same .ensures) ∙ (c .if1 .left)),
+    )
 
 returns-2 : tie.Need-returns-2 Inv-loop μ-loop
-returns-2 c = let b : List ℕ = (c .before .before .before .before .args .b .now) in
-    any-end (sameBond (c .before .before .before .before .args .x)) (nthOutBond b) (outCount b) (c .before .loop .i) (omega arith) (c .before .loop .inv .2) ∙ sym (has-any sameBond (c .before .before .before .before .args .x) (arcsIn b .outBonds))
+returns-2 c =
+    let given = c .before .before .before .before .args in
+    let b : List ℕ = given .b .now in
+    any-end (sameBond (given .x)) (nthOutBond b) (outCount b) (c .before .loop .i) (omega arith) (c .before .loop .inv .2) ∙ sym (has-any sameBond (given .x) (arcsIn b .outBonds))
 
 pub has-out-bond-spec : {M : Type 1} → statement M
 has-out-bond-spec =

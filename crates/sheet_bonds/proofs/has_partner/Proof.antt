@@ -32,8 +32,11 @@ is-partner-requires : tie.Need-is-partner-requires Inv-loop μ-loop
 is-partner-requires c κs = search needs
 
 returns : tie.Need-returns Inv-loop μ-loop
-returns c = let b : List ℕ = (c .before .before .before .before .before .before .before .args .b .now) in
-    any-left (partner (c .before .before .before .before .before .before .before .args .out) (c .before .before .before .before .before .before .before .args .hi) (c .before .before .before .before .before .before .before .args .at)) (nthEntry b) (entryCount b) (c .before .before .before .before .loop .i) (omega arith) _ (c .before .before .entry .ensures) (sym (c .before .is-partner .ensures) ∙ (c .if1 .taken))
+returns c =
+    let at : tie.At-loop Inv-loop μ-loop = c .before .before .before .before in
+    let given = at .before .before .before .args in
+    let b : List ℕ = given .b .now in
+    any-left (partner (given .out) (given .hi) (given .at)) (nthEntry b) (entryCount b) (at .loop .i) (omega arith) _ (c .before .before .entry .ensures) (sym (c .before .is-partner .ensures) ∙ (c .if1 .taken))
 
 add-i : tie.Need-add-i Inv-loop μ-loop
 add-i c = search needs
@@ -42,15 +45,19 @@ loop-less : tie.Need-loop-less Inv-loop μ-loop
 loop-less c = search needs
 
 loop-again : tie.Need-loop-again Inv-loop μ-loop
-loop-again c = (
-  search needs,
-  search needs,
-  any-on (partner (c .before .before .before .before .before .before .before .args .out) (c .before .before .before .before .before .before .before .args .hi) (c .before .before .before .before .before .before .before .args .at)) (nthEntry (c .before .before .before .before .before .before .before .args .b .now)) (c .before .before .before .before .loop .i) (c .before .before .before .before .loop .inv .2) _ (c .before .before .entry .ensures) (sym (c .before .is-partner .ensures) ∙ (c .if1 .left)),
-)
+loop-again c =
+    let at : tie.At-loop Inv-loop μ-loop = c .before .before .before .before in
+    let given = at .before .before .before .args in (
+      search needs,
+      search needs,
+      any-on (partner (given .out) (given .hi) (given .at)) (nthEntry (given .b .now)) (at .loop .i) (at .loop .inv .2) _ (c .before .before .entry .ensures) (sym (c .before .is-partner .ensures) ∙ (c .if1 .left)),
+    )
 
 returns-2 : tie.Need-returns-2 Inv-loop μ-loop
-returns-2 c = let b : List ℕ = (c .before .before .before .before .args .b .now) in
-    any-end (partner (c .before .before .before .before .args .out) (c .before .before .before .before .args .hi) (c .before .before .before .before .args .at)) (nthEntry b) (entryCount b) (c .before .loop .i) (omega arith) (c .before .loop .inv .2)
+returns-2 c =
+    let given = c .before .before .before .before .args in
+    let b : List ℕ = given .b .now in
+    any-end (partner (given .out) (given .hi) (given .at)) (nthEntry b) (entryCount b) (c .before .loop .i) (omega arith) (c .before .loop .inv .2)
 
 pub has-partner-spec : {M : Type 1} → statement M
 has-partner-spec =

@@ -38,7 +38,9 @@ pair-offset-requires : tie.Need-pair-offset-requires Inv-loop μ-loop
 pair-offset-requires c κs = search needs
 
 returns : tie.Need-returns Inv-loop μ-loop
-returns c = sym ((c .before .before .before .loop .inv .2) ∙ follow-left _ _ _ (c .before .before .before .loop .left) _ (omega arith) (c .before .pair-offset .ensures .0) (c .if1 .taken))
+returns c =
+    let at : tie.At-loop Inv-loop μ-loop = c .before .before .before in
+    sym ((at .loop .inv .2) ∙ follow-left _ _ _ (at .loop .left) _ (omega arith) (c .before .pair-offset .ensures .0) (c .if1 .taken))
 
 pair-length-requires : tie.Need-pair-length-requires Inv-loop μ-loop
 pair-length-requires c κs = search needs
@@ -56,7 +58,9 @@ loop-less : tie.Need-loop-less Inv-loop μ-loop
 loop-less c = search needs
 
 loop-again : tie.Need-loop-again Inv-loop μ-loop
-loop-again c = (search needs, search needs, (c .before .before .before .before .loop .inv .2) ∙ follow-on _ _ _ (c .before .before .before .before .loop .left) _ (omega arith) (c .before .before .pair-offset .ensures .0) (c .before .if1 .left) _ (c .pair-length .ensures .0))
+loop-again c =
+    let at : tie.At-loop Inv-loop μ-loop = c .before .before .before .before in
+    (search needs, search needs, (at .loop .inv .2) ∙ follow-on _ _ _ (at .loop .left) _ (omega arith) (c .before .before .pair-offset .ensures .0) (c .before .if1 .left) _ (c .pair-length .ensures .0))
 
 returns-2 : tie.Need-returns-2 Inv-loop μ-loop
 returns-2 c = sym ((c .before .loop .inv .2) ∙ follow-end _ _ _ (c .before .loop .left) (omega arith))

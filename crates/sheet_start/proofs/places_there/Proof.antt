@@ -27,8 +27,11 @@ shared-slice-read-if1 : tie.Need-shared-slice-read-if1 Inv-loop μ-loop
 shared-slice-read-if1 c = search needs
 
 returns : tie.Need-returns Inv-loop μ-loop
-returns c = let s : List ℕ = (c .before .before .before .before .args .bytes .now) in
-    all-left (λ (x : ℕ). ltb x (c .before .before .before .before .args .places)) (λ j. getD s j 0) (length s) (c .before .before .before .loop .i) (c .before .before .loop-test .taken) _ refl (le-ltb _ _ (c .if1 .taken)) ∙ sym (all-list _ s 0)
+returns c =
+    let at : tie.At-loop Inv-loop μ-loop = c .before .before .before in
+    let given = at .before .args in
+    let s : List ℕ = (given .bytes .now) in
+    all-left (λ (x : ℕ). ltb x (given .places)) (λ j. getD s j 0) (length s) (at .loop .i) (c .before .before .loop-test .taken) _ refl (le-ltb _ _ (c .if1 .taken)) ∙ sym (all-list _ s 0)
 
 add-i : tie.Need-add-i Inv-loop μ-loop
 add-i c = search needs
@@ -37,11 +40,16 @@ loop-less : tie.Need-loop-less Inv-loop μ-loop
 loop-less c = search needs
 
 loop-again : tie.Need-loop-again Inv-loop μ-loop
-loop-again c = (search needs, all-on (λ (x : ℕ). ltb x (c .before .before .before .before .args .places)) (λ j. getD (c .before .before .before .before .args .bytes .now) j 0) (c .before .before .before .loop .i) (c .before .before .before .loop .inv .1) _ refl (lt-ltb _ _ (c .if1 .left)))
+loop-again c =
+    let at : tie.At-loop Inv-loop μ-loop = c .before .before .before in
+    let given = at .before .args in
+    (search needs, all-on (λ (x : ℕ). ltb x (given .places)) (λ j. getD (given .bytes .now) j 0) (at .loop .i) (at .loop .inv .1) _ refl (lt-ltb _ _ (c .if1 .left)))
 
 returns-2 : tie.Need-returns-2 Inv-loop μ-loop
-returns-2 c = let s : List ℕ = (c .before .before .args .bytes .now) in
-    all-end (λ (x : ℕ). ltb x (c .before .before .args .places)) (λ j. getD s j 0) (length s) (c .before .loop .i) (omega arith) (c .before .loop .inv .1) ∙ sym (all-list _ s 0)
+returns-2 c =
+    let given = c .before .before .args in
+    let s : List ℕ = (given .bytes .now) in
+    all-end (λ (x : ℕ). ltb x (given .places)) (λ j. getD s j 0) (length s) (c .before .loop .i) (omega arith) (c .before .loop .inv .1) ∙ sym (all-list _ s 0)
 
 pub places-there-spec : {M : Type 1} → statement M
 places-there-spec =

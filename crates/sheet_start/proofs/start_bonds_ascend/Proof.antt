@@ -42,8 +42,10 @@ bond-before-requires : tie.Need-bond-before-requires Inv-loop μ-loop
 bond-before-requires c κs = search needs
 
 returns : tie.Need-returns Inv-loop μ-loop
-returns c = let s : List ℕ = (c .before .before .before .before .before .before .before .before .args .sheet .now) in
-    ascends-left lessBond (nthStartBond s) (startBondCount s) (c .before .before .before .before .before .loop .i) (omega arith) _ _ (c .before .before .before .start-bond .ensures) (c .before .before .start-bond2 .ensures) (sym (c .before .bond-before .ensures) ∙ not-true _ (c .if1 .taken))
+returns c =
+    let at : tie.At-loop Inv-loop μ-loop = c .before .before .before .before .before in
+    let s : List ℕ = at .before .before .before .args .sheet .now in
+    ascends-left lessBond (nthStartBond s) (startBondCount s) (at .loop .i) (omega arith) _ _ (c .before .before .before .start-bond .ensures) (c .before .before .start-bond2 .ensures) (sym (c .before .bond-before .ensures) ∙ not-true _ (c .if1 .taken))
 
 add-i : tie.Need-add-i Inv-loop μ-loop
 add-i c = search needs
@@ -52,11 +54,12 @@ loop-less : tie.Need-loop-less Inv-loop μ-loop
 loop-less c = search needs
 
 loop-again : tie.Need-loop-again Inv-loop μ-loop
-loop-again c = (
-  search needs,
-  search needs,
-  ascends-on lessBond (nthStartBond (c .before .before .before .before .before .before .before .before .args .sheet .now)) (c .before .before .before .before .before .loop .i) (c .before .before .before .before .before .loop .inv .2) _ _ (c .before .before .before .start-bond .ensures) (c .before .before .start-bond2 .ensures) (sym (c .before .bond-before .ensures) ∙ not-false _ (c .if1 .left)),
-)
+loop-again c =
+    let at : tie.At-loop Inv-loop μ-loop = c .before .before .before .before .before in (
+      search needs,
+      search needs,
+      ascends-on lessBond (nthStartBond (at .before .before .before .args .sheet .now)) (at .loop .i) (at .loop .inv .2) _ _ (c .before .before .before .start-bond .ensures) (c .before .before .start-bond2 .ensures) (sym (c .before .bond-before .ensures) ∙ not-false _ (c .if1 .left)),
+    )
 
 returns-2 : tie.Need-returns-2 Inv-loop μ-loop
 returns-2 c = let s : List ℕ = (c .before .before .before .before .args .sheet .now) in

@@ -34,8 +34,10 @@ start-bond-fits-requires : tie.Need-start-bond-fits-requires Inv-loop μ-loop
 start-bond-fits-requires c κs = search needs
 
 returns : tie.Need-returns Inv-loop μ-loop
-returns c = let s : List ℕ = (c .before .before .before .before .before .before .before .args .sheet .now) in
-    all-left (startBondRule (basesOf s) (startOf s)) (nthStartBond s) (startBondCount s) (c .before .before .before .before .loop .i) (omega arith) _ (c .before .before .start-bond .ensures) (sym (c .before .start-bond-fits .ensures) ∙ not-true _ (c .if1 .taken))
+returns c =
+    let at : tie.At-loop Inv-loop μ-loop = c .before .before .before .before in
+    let s : List ℕ = at .before .before .before .args .sheet .now in
+    all-left (startBondRule (basesOf s) (startOf s)) (nthStartBond s) (startBondCount s) (at .loop .i) (omega arith) _ (c .before .before .start-bond .ensures) (sym (c .before .start-bond-fits .ensures) ∙ not-true _ (c .if1 .taken))
 
 add-i : tie.Need-add-i Inv-loop μ-loop
 add-i c = search needs
@@ -44,11 +46,13 @@ loop-less : tie.Need-loop-less Inv-loop μ-loop
 loop-less c = search needs
 
 loop-again : tie.Need-loop-again Inv-loop μ-loop
-loop-again c = let s : List ℕ = (c .before .before .before .before .before .before .before .args .sheet .now) in (
-  search needs,
-  search needs,
-  all-on (startBondRule (basesOf s) (startOf s)) (nthStartBond s) (c .before .before .before .before .loop .i) (c .before .before .before .before .loop .inv .2) _ (c .before .before .start-bond .ensures) (sym (c .before .start-bond-fits .ensures) ∙ not-false _ (c .if1 .left)),
-)
+loop-again c =
+    let at : tie.At-loop Inv-loop μ-loop = c .before .before .before .before in
+    let s : List ℕ = at .before .before .before .args .sheet .now in (
+      search needs,
+      search needs,
+      all-on (startBondRule (basesOf s) (startOf s)) (nthStartBond s) (at .loop .i) (at .loop .inv .2) _ (c .before .before .start-bond .ensures) (sym (c .before .start-bond-fits .ensures) ∙ not-false _ (c .if1 .left)),
+    )
 
 returns-2 : tie.Need-returns-2 Inv-loop μ-loop
 returns-2 c = let s : List ℕ = (c .before .before .before .before .args .sheet .now) in
