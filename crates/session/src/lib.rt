@@ -1,6 +1,7 @@
 // Commands on the session record (document 01, commands, record, tally): the record goes in by value and comes out.
 ghost use mathlib.Core.Path.{_≡_};
-ghost use Rattle.session.specs.Commands.{decodedOf};
+ghost use Rattle.tally.specs.Counts.{countedOf};
+ghost use Rattle.session.specs.Commands.{decodedOf, countOf, outcomeFor, commandOf};
 use firings::Firing;
 use format::byte_at;
 use format::word_at;
@@ -8,6 +9,7 @@ use marking::Marking;
 use net::Key;
 use net::MAX_LIVE;
 use net::Transition;
+use tally::Tally;
 
 // The session record: a marking, and the live firings in strictly ascending keys. Unused entries hold 0.
 pub struct Record {
@@ -73,4 +75,49 @@ pub fn decode(bytes: &[u8]) -> Decoded
         return Decoded::Unreadable;
     }
     Decoded::Given(Command::UndoLast)
+}
+
+// The count of the tally that an answer adds to.
+pub fn count_of(a: Answer) -> u8
+    ensures { λ r. ⌜ r ≡ countOf a ⌝ }
+{
+    match a {
+        Answer::Fired => 0,
+        Answer::Undone => 1,
+        Answer::Refused(_) => 2,
+    }
+}
+
+// An outcome, and the tally after it.
+pub struct Counted {
+    pub outcome: Outcome,
+    pub tally: Tally,
+}
+
+impl Record {
+    // TEMPORARY BODY
+    pub fn answer(self, sheet: &[u8], bytes: &[u8]) -> Outcome
+        ensures { λ r. ⌜ r ≡ outcomeFor (now (sheet .entry)) self (now (bytes .entry)) ⌝ }
+    {
+        Outcome { answer: Answer::Refused(1), key: Key(0), session: self }
+    }
+
+    // One command: the record comes back in the outcome, and the lent tally has one more in one count.
+    pub fn command(self, sheet: &[u8], bytes: &[u8], t: &mut Tally) -> Outcome
+        ensures { λ r. ⌜ (r ≡ commandOf (now (sheet .entry)) self (now (t .entry)) (now (bytes .entry)) .outcome) × (now (t .exit) ≡ commandOf (now (sheet .entry)) self (now (t .entry)) (now (bytes .entry)) .tally) ⌝ }
+    {
+        let o = self.answer(sheet, bytes);
+        let which = count_of(o.answer);
+        tally::count(t, which);
+        o
+    }
+}
+
+// The same with a tally by value, lent to the command and handed back: so that programs run the very call.
+pub fn command_with(r: Record, sheet: &[u8], bytes: &[u8], t: Tally) -> Counted
+    ensures { λ x. ⌜ (x .outcome ≡ commandOf (now (sheet .entry)) r t (now (bytes .entry)) .outcome) × (x .tally ≡ commandOf (now (sheet .entry)) r t (now (bytes .entry)) .tally) ⌝ }
+{
+    let mut own = t;
+    let o = r.command(sheet, bytes, &mut own);
+    Counted { outcome: o, tally: own }
 }
