@@ -3,13 +3,14 @@
 use mathlib.Core.Path.{_≡_, refl, sym, _∙_, ap}
 use mathlib.Core.Bool.{Bool, true, false, not, _&&_, Bool·beq}
 use mathlib.Core.List.{List, [], _∷_}
-use Prim.Native.Nat.{ℕ, suc, _+_, _<_, _≤_}
+use Prim.Native.Nat.{ℕ, suc, _+_, _*_, _-_, _<_, _≤_}
 use native.Mathlib.Omega.{arith}
 use native.Mathlib.Numerals.{add-one}
 use lib.Dec.{eqb}
 use lib.ListN.{length, getD, take, drop, drop-of-length-le}
 use lib.Seq.{drop-cons, take-at}
 use borrow.Author.Tests.{eq-eqb, ne-eqb, leb-false}
+use Rattle.net.specs.Limits.{maxBases, maxBonds}
 use Rattle.net.specs.Tests.{table, sameList}
 use Rattle.net.specs.Net as Net
 use Rattle.net.specs.Net.{Net, arcsOf}
@@ -28,14 +29,16 @@ use Rattle.format.specs.Arcs.{arcsIn}
 use Rattle.format.specs.NetOf.{netOf}
 use Rattle.sheet.specs.Checks.{sheetChecks}
 use Rattle.sheet.proofs.Order.{clear-first}
-use Rattle.marking.specs.Form.{markingOf, laid, flags}
+use Rattle.marking.specs.Form.{bondsOf, markingOf, laid, flags}
 use Rattle.marking.specs.declared.Marking.{Marking}
 use Rattle.marking.proofs.Forms.{marking-laid}
 use Rattle.firings.specs.Lines.{lineOf, linesIn, past}
 use Rattle.firings.specs.declared.Firing.{Firing}
 use Rattle.steps.specs.Placed.{Placed}
 use Rattle.steps.proofs.Arcs.{arcs-of, count-of}
-use Rattle.steps.proofs.Readiness.{fit}
+use Rattle.steps.proofs.Readiness.{few-bases, fit}
+use Rattle.enabling.proofs.Readiness.{bonds-fit}
+use Rattle.bonds.specs.Ends.{ends}
 
 -- none of 12 to 16 holds exactly where the first is 0
 pub enabled-first : (net : Net) (z : Net.Marking) (t : Transition) → clear (enableChecks net z t) ≡ eqb (first (enableChecks net z t)) 0
@@ -60,6 +63,14 @@ unfolding netOf
 placed-fired s m t P h = placed-laid s (fire (basesOf s) (arcsOf (netOf s) t) (markingOf (basesOf s) m)) (P .accepted)
     (fire-good (netOf s) (markingOf (basesOf s) m) (P .good) (arcsOf (netOf s) t) (rw (arcs-of s t) (fit s m t P (enabled-listed s (markingOf (basesOf s) m) t h)))
     (clear-off (enableChecks (netOf s) (markingOf (basesOf s) m) t) h 16))
+
+-- the bonds of a good marking fit its arrays
+pub placed-room : (s : List ℕ) (m : Marking) → Placed s m → m .count ≤ maxBonds
+unfolding netOf
+placed-room s m P =
+    let size : length (bondsOf m) ≡ m .count = length-table (m .count) (ends (m .lo) (m .hi)) in
+    let most : 2 * length (bondsOf m) ≤ maxBases * (maxBases - 1) = bonds-fit (basesOf s) maxBases (few-bases s m P) (bondsOf m) (P .good .order) (P .good .range) in
+    omega arith
 
 -- ---- a firing as a line
 

@@ -3,6 +3,14 @@ use mathlib.Core.Path.{_≡_, refl, ap, sym, _∙_}
 use Prim.Native.Nat.{ℕ, suc, _+_, _-_, _*_, _<_, _≤_}
 use lib.ListN.{length, getD, take, drop, set}
 use mathlib.Core.List.{List, [], _∷_, _++_}
+use Rattle.sound.proofs.Lines.{line-refused, line-clear, line-same, enabled-listed}
+use Rattle.steps.proofs.Readiness.{few-bases}
+use mathlib.Core.Bool.{true}
+use Rattle.net.specs.Checks.{clear}
+use Rattle.net.specs.Journal.{transition, enableChecks}
+use Rattle.format.specs.Parts.{basesOf}
+use Rattle.format.specs.NetOf.{netOf}
+use Rattle.marking.specs.Form.{markingOf}
 use borrow.Author.Needs.{needs}
 use Rattle.sound.proofs.line_accepted.Statement.{statement}
 use Rattle.sound.proofs.line_accepted.Tie as tie
@@ -12,6 +20,10 @@ use Rattle.firings.proofs.same_flags.Reads as same-flags-reads
 use Rattle.format.proofs.base_count.Reads as base-count-reads
 use Rattle.steps.proofs.enable_refusal.Reads as enable-refusal-reads
 use Rattle.steps.proofs.moved_by.Reads as moved-by-reads
+
+-- the firing's transition is enabled
+passed : (c : tie.Else1) → clear (enableChecks (netOf (c .before .before .before .before .before .args .sheet .now)) (markingOf (basesOf (c .before .before .before .before .before .args .sheet .now)) (c .before .before .before .before .before .args .m)) (transition (c .before .before .before .before .before .args .f .transition))) ≡ true
+passed c = line-clear (c .before .before .before .before .before .args .sheet .now) (c .before .before .before .before .before .args .m) (c .before .before .before .before .before .args .f) _ (c .before .enable-refusal .ensures) (c .if1 .left)
 
 -- src/lib.rt:38:13
 base-count-requires : tie.Need-base-count-requires
@@ -27,23 +39,23 @@ cast-t9 c = search needs
 
 -- src/lib.rt:40:8
 enable-refusal-requires : tie.Need-enable-refusal-requires
-enable-refusal-requires c κs = search needs
+enable-refusal-requires c κs = c .before .before .before .pre
 
 -- src/lib.rt:41:9
 returns : tie.Need-returns
-returns c = search needs
+returns c = line-refused (c .before .before .before .before .before .args .sheet .now) (c .before .before .before .before .before .args .m) (c .before .before .before .before .before .args .f) _ (c .before .enable-refusal .ensures) (c .if1 .taken)
 
 -- src/lib.rt:44:9
 moved-by-requires : tie.Need-moved-by-requires
-moved-by-requires c κs = search needs
+moved-by-requires c κs = (c .before .before .before .before .before .before .pre, enabled-listed (c .before .before .before .before .before .before .args .sheet .now) (markingOf (basesOf (c .before .before .before .before .before .before .args .sheet .now)) (c .before .before .before .before .before .before .args .m)) (transition (c .before .before .before .before .before .before .args .f .transition)) (passed (c .before)))
 
 -- src/lib.rt:45:5
 same-flags-requires : tie.Need-same-flags-requires
-same-flags-requires c κs = search needs
+same-flags-requires c κs = let e = c .before .before .before .before .before .base-count .ensures in let h = few-bases _ _ (c .before .before .before .before .before .before .before .pre) in omega arith
 
 -- src/lib.rt:34:1
 returns-2 : tie.Need-returns-2
-returns-2 c = search needs
+returns-2 c = line-same (c .before .before .before .before .before .before .before .before .args .sheet .now) (c .before .before .before .before .before .before .before .before .args .m) (c .before .before .before .before .before .before .before .before .args .f) _ _ _ (passed (c .before .before .before)) (c .before .before .before .before .before .before .base-count .ensures) (c .before .moved-by .ensures) (c .same-flags .ensures)
 
 pub line-accepted-spec : {M : Type 1} → statement M
 line-accepted-spec =

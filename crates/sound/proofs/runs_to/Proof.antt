@@ -1,3 +1,16 @@
+use mathlib.Core.Bool.{true}
+use borrow.Author.Tests.{not-true, not-false}
+use Rattle.net.specs.Limits.{maxLive, maxBonds}
+use Rattle.net.specs.Journal.{transition}
+use Rattle.net.specs.History.{sameMarking, accepts, replays}
+use Rattle.net.proofs.Tests.{and-l}
+use Rattle.format.specs.Parts.{basesOf}
+use Rattle.format.specs.NetOf.{netOf}
+use Rattle.marking.specs.Form.{markingOf}
+use Rattle.firings.specs.Lines.{lineOf, linesIn, past}
+use Rattle.steps.specs.Placed.{Placed}
+use Rattle.steps.proofs.Readiness.{few-bases}
+use Rattle.sound.proofs.Lines.{enabled-listed, placed-room, run-stops, run-goes, run-ends}
 use borrow.Author.Needs.{needs}
 use native.Mathlib.Omega.{arith}
 use mathlib.Core.Path.{_≡_, refl, ap, sym, _∙_}
@@ -14,14 +27,23 @@ use Rattle.sound.proofs.line_accepted.Reads as line-accepted-reads
 use Rattle.steps.proofs.fired.Reads as fired-reads
 
 abbrev Inv-loop : tie.InvT-loop
-Inv-loop sheet live end firings now-at₀ i₀ now-at i = ?
+Inv-loop sheet live end firings now-at₀ i₀ now-at i =
+    (i ≤ live) × (live ≤ maxLive) × (end .count ≤ maxBonds) × Placed sheet now-at
+    × (replays (netOf sheet) (markingOf (basesOf sheet) now-at₀) (linesIn (basesOf sheet) live firings) (markingOf (basesOf sheet) end)
+    ≡ replays (netOf sheet) (markingOf (basesOf sheet) now-at) (drop i (linesIn (basesOf sheet) live firings)) (markingOf (basesOf sheet) end))
 
 abbrev μ-loop : tie.MeasureT-loop
-μ-loop sheet live end firings now-at₀ i₀ now-at i = ?
+μ-loop sheet live end firings now-at₀ i₀ now-at i = live - i
+
+-- a line that was accepted
+accepted : (c : tie.Else1 Inv-loop μ-loop) → accepts (netOf (c .before .before .before .before .before .before .args .sheet .now))
+    (markingOf (basesOf (c .before .before .before .before .before .before .args .sheet .now)) (c .before .before .before .before .loop .now-at))
+    (lineOf (basesOf (c .before .before .before .before .before .before .args .sheet .now)) (getD (c .before .before .before .before .before .before .args .t3) (c .before .before .before .before .loop .i) past)) ≡ true
+accepted c = sym (c .before .line-accepted .ensures) ∙ not-false _ (c .if1 .left)
 
 -- src/lib.rt:56:5
 loop-holds : tie.Need-loop-holds Inv-loop μ-loop
-loop-holds c = search needs
+loop-holds c = (search needs, c .before .pre .1, c .before .pre .2, c .before .pre .0, refl)
 
 -- src/lib.rt:57:17
 mul-f : tie.Need-mul-f Inv-loop μ-loop
@@ -33,11 +55,13 @@ array-copy-out-f c = search needs
 
 -- src/lib.rt:58:13
 line-accepted-requires : tie.Need-line-accepted-requires Inv-loop μ-loop
-line-accepted-requires c κs = search needs
+line-accepted-requires c κs = c .before .before .loop .inv .3
 
 -- src/lib.rt:59:13
 returns : tie.Need-returns Inv-loop μ-loop
-returns c = search needs
+returns c =
+    let at : tie.At-loop Inv-loop μ-loop = c .before .before .before .before in
+    run-stops (at .before .before .args .sheet .now) (at .before .before .args .t3) (at .before .before .args .live) (markingOf (basesOf (at .before .before .args .sheet .now)) (at .before .before .args .end)) _ (at .loop .now-at) (at .loop .i) (c .before .before .before .loop-test .taken) (at .loop .inv .4) (sym (c .before .line-accepted .ensures) ∙ not-true _ (c .if1 .taken))
 
 -- src/lib.rt:61:50
 cast-t17 : tie.Need-cast-t17 Inv-loop μ-loop
@@ -45,7 +69,9 @@ cast-t17 c = search needs
 
 -- src/lib.rt:61:9
 fired-requires : tie.Need-fired-requires Inv-loop μ-loop
-fired-requires c κs = search needs
+fired-requires c κs =
+    let at : tie.At-loop Inv-loop μ-loop = c .before .before .before .before .before in
+    (at .loop .inv .3, enabled-listed (at .before .before .args .sheet .now) (markingOf (basesOf (at .before .before .args .sheet .now)) (at .loop .now-at)) (transition (getD (at .before .before .args .t3) (at .loop .i) past .transition)) (and-l _ _ (accepted (c .before))))
 
 -- src/lib.rt:62:9
 add-i : tie.Need-add-i Inv-loop μ-loop
@@ -57,7 +83,10 @@ loop-less c = search needs
 
 -- src/lib.rt:56:5
 loop-again : tie.Need-loop-again Inv-loop μ-loop
-loop-again c = search needs
+loop-again c =
+    let at : tie.At-loop Inv-loop μ-loop = c .before .before .before .before .before .before in
+    let (P, e) = run-goes (at .before .before .args .sheet .now) (at .before .before .args .t3) (at .before .before .args .live) (markingOf (basesOf (at .before .before .args .sheet .now)) (at .before .before .args .end)) _ (at .loop .now-at) _ (at .loop .i) (c .before .before .before .before .before .loop-test .taken) (at .loop .inv .3) (at .loop .inv .4) (accepted (c .before .before)) (c .fired .ensures) in
+    (search needs, search needs, search needs, P, e)
 
 -- src/lib.rt:64:13
 base-count-requires : tie.Need-base-count-requires Inv-loop μ-loop
@@ -69,11 +98,18 @@ cast-n c = search needs
 
 -- src/lib.rt:65:5
 same-marking-requires : tie.Need-same-marking-requires Inv-loop μ-loop
-same-marking-requires c κs = search needs
+same-marking-requires c κs =
+    let at : tie.At-loop Inv-loop μ-loop = c .before .before in
+    let e = c .base-count .ensures in
+    let h = few-bases _ _ (at .loop .inv .3) in
+    (omega arith, placed-room _ _ (at .loop .inv .3), at .loop .inv .2)
 
 -- src/lib.rt:50:1
 returns-2 : tie.Need-returns-2 Inv-loop μ-loop
-returns-2 c = search needs
+returns-2 c =
+    let at : tie.At-loop Inv-loop μ-loop = c .before .before .before in
+    c .same-marking .ensures ∙ (λ j. sameMarking (markingOf (c .before .base-count .ensures j) (at .loop .now-at)) (markingOf (c .before .base-count .ensures j) (at .before .before .args .end)))
+    ∙ sym (run-ends (at .before .before .args .sheet .now) (at .before .before .args .t3) (at .before .before .args .live) (markingOf (basesOf (at .before .before .args .sheet .now)) (at .before .before .args .end)) _ (at .loop .now-at) (at .loop .i) (c .before .before .loop-test .left) (at .loop .inv .4))
 
 pub runs-to-spec : {M : Type 1} → statement M
 runs-to-spec =
