@@ -6,7 +6,8 @@ use mathlib.Core.List.{List, [], _∷_, _++_}
 use Prim.Native.Nat.{ℕ, suc, _+_, _<_, _≤_}
 use native.Mathlib.Numerals.{add-one}
 use lib.ListN.{length, getD, drop, take, drop-of-length-le}
-use lib.Dec.{ltb}
+use lib.Dec.{ltb, leb}
+use Rattle.net.specs.Limits.{maxKey}
 use lib.Seq.{drop-cons, take-suc}
 use Rattle.net.specs.Tests.{all, table}
 use Rattle.net.proofs.Tests.{all-append}
@@ -30,13 +31,13 @@ module _ {X : Type 0} (t : X → Bool) where
       ∙ ap (λ (b : Bool). all t (take i l) && b) (and-true (t (getD l i d))) ∙ ap (λ (b : Bool). b && t (getD l i d)) (sym e))
 
 -- keys: one turn, and the end
-pub climb-turn : (f : ℕ → ℕ) (n i last : ℕ) (w ok : Bool) → i < n → w ≡ (ok && climbs last (drop i (table n f))) → w ≡ ((ok && ltb last (f i)) && climbs (f i) (drop (i + 1) (table n f)))
+pub climb-turn : (f : ℕ → ℕ) (n i last : ℕ) (w ok : Bool) → i < n → w ≡ (ok && climbs last (drop i (table n f))) → w ≡ ((ok && (ltb last (f i) && leb (f i) maxKey)) && climbs (f i) (drop (i + 1) (table n f)))
 climb-turn f n i last w ok h e =
     let size : i < length (table n f) = rw length-table h in
     e ∙ ap (λ (k : List ℕ). ok && climbs last k) (drop-cons (table n f) i 0 size)
-    ∙ ap (λ (x : ℕ). ok && (ltb last x && climbs x (drop (suc i) (table n f)))) (getD-table n f i 0 h)
-    ∙ sym (and-assoc ok (ltb last (f i)) (climbs (f i) (drop (suc i) (table n f))))
-    ∙ ap (λ (k : ℕ). (ok && ltb last (f i)) && climbs (f i) (drop k (table n f))) (sym (add-one i))
+    ∙ ap (λ (x : ℕ). ok && ((ltb last x && leb x maxKey) && climbs x (drop (suc i) (table n f)))) (getD-table n f i 0 h)
+    ∙ sym (and-assoc ok (ltb last (f i) && leb (f i) maxKey) (climbs (f i) (drop (suc i) (table n f))))
+    ∙ ap (λ (k : ℕ). (ok && (ltb last (f i) && leb (f i) maxKey)) && climbs (f i) (drop k (table n f))) (sym (add-one i))
 
 pub climb-end : (f : ℕ → ℕ) (n i last : ℕ) (w ok : Bool) → n ≤ i → w ≡ (ok && climbs last (drop i (table n f))) → ok ≡ w
 climb-end f n i last w ok h e =

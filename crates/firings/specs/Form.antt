@@ -3,8 +3,9 @@
 use mathlib.Core.Bool.{Bool, true, not, _&&_}
 use mathlib.Core.List.{List, [], _∷_}
 use Prim.Native.Nat.{ℕ}
-use lib.Dec.{eqb, ltb}
+use lib.Dec.{eqb, ltb, leb}
 use lib.ListN.{getD, take, drop}
+use Rattle.net.specs.Limits.{maxKey}
 use Rattle.net.specs.Tests.{all, table}
 use Rattle.firings.specs.Lines.{past}
 use Rattle.firings.specs.declared.Firing.{Firing}
@@ -28,7 +29,7 @@ unusedInForm k fs = all isNoFiring (drop k fs)
 abbrev pub liveKeys : ℕ → List Firing → List ℕ
 liveKeys k fs = table k (λ i. getD fs i past .key .0)
 
--- each is above the one before, the first above `last`
+-- each is above the one before, the first above `last`, and none is above the highest key
 abbrev pub climbs : ℕ → List ℕ → Bool
 climbs last [] = true
-climbs last (k ∷ ks) = ltb last k && climbs k ks
+climbs last (k ∷ ks) = (ltb last k && leb k maxKey) && climbs k ks

@@ -11,6 +11,7 @@ ghost use Rattle.firings.specs.Lines.{noFiring, closedUp};
 ghost use Rattle.firings.specs.Form.{unset, isNoFiring, usedInForm, unusedInForm, liveKeys, climbs};
 use net::Key;
 use net::MAX_BASES;
+use net::MAX_KEY;
 use net::MAX_LIVE;
 
 // A live firing. The transition's number is kept in one byte.
@@ -109,7 +110,7 @@ pub fn unused_in_form(firings: [Firing; MAX_LIVE], live: usize) -> bool
     ok
 }
 
-// The live keys strictly ascend from 1.
+// The live keys strictly ascend, from 1 to 65,535.
 pub fn keys_climb(firings: [Firing; MAX_LIVE], live: usize) -> bool
     requires { ⌜ live ≤ maxLive ⌝ }
     ensures { λ r. ⌜ r ≡ climbs 0 (liveKeys live firings) ⌝ }
@@ -120,7 +121,7 @@ pub fn keys_climb(firings: [Firing; MAX_LIVE], live: usize) -> bool
     while i < live {
         let f = firings[i];
         let k = f.key.0;
-        ok = ok & (last < k);
+        ok = ok & ((last < k) & (k <= MAX_KEY));
         last = k;
         i += 1;
     }

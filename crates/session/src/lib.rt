@@ -99,7 +99,11 @@ impl Record {
     pub fn answer(self, sheet: &[u8], bytes: &[u8]) -> Outcome
         ensures { λ r. ⌜ r ≡ outcomeFor (now (sheet .entry)) self (now (bytes .entry)) ⌝ }
     {
-        Outcome { answer: Answer::Refused(1), key: Key(0), session: self }
+        Outcome {
+            answer: Answer::Refused(1),
+            key: Key(0),
+            session: self,
+        }
     }
 
     // One command: the record comes back in the outcome, and the lent tally has one more in one count.
@@ -119,5 +123,8 @@ pub fn command_with(r: Record, sheet: &[u8], bytes: &[u8], t: Tally) -> Counted
 {
     let mut own = t;
     let o = r.command(sheet, bytes, &mut own);
-    Counted { outcome: o, tally: own }
+    Counted {
+        outcome: o,
+        tally: own,
+    }
 }

@@ -1,2 +1,4 @@
 -- Laws of soundness on what a record holds.
 pub mod Lines
+pub mod Keys
+pub mod Tests

@@ -134,7 +134,7 @@ module _ (s : List ℕ) (fs : List Firing) (live : ℕ) (z : Net.Marking) where
       let back : markingOf (basesOf s) m′ ≡ y = ap (markingOf (basesOf s)) q ∙ marking-laid y (basesOf s) (length-table (basesOf s) _) in (
         rw q P′,
         run-step w m i h e ∙ ap (λ (b : Bool). b && replays (netOf s) y (drop (suc i) lines) z) a
-        ∙ (λ j. replays (netOf s) (sym back j) (drop (sym (add-one i) j) lines) z),
+            ∙ (λ j. replays (netOf s) (sym back j) (drop (sym (add-one i) j) lines) z),
       )
 
   pub run-ends : (w : Bool) (m : Marking) (i : ℕ) → live ≤ i → w ≡ replays (netOf s) (markingOf (basesOf s) m) (drop i lines) z → w ≡ sameMarking (markingOf (basesOf s) m) z

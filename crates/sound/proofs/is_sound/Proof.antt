@@ -1,0 +1,103 @@
+use native.Mathlib.Omega.{arith}
+use mathlib.Core.Path.{_≡_, refl, ap, sym, _∙_}
+use Prim.Native.Nat.{ℕ, suc, _+_, _-_, _*_, _<_, _≤_}
+use lib.ListN.{length, getD, take, drop, set}
+use mathlib.Core.List.{List, [], _∷_, _++_}
+use mathlib.Core.Bool.{_&&_}
+use borrow.Author.Tests.{not-true, not-false, leb-true}
+use Rattle.net.specs.History.{replays}
+use Rattle.net.proofs.Tests.{and-l}
+use Rattle.format.specs.Parts.{basesOf}
+use Rattle.format.specs.NetOf.{netOf}
+use Rattle.marking.specs.Form.{markingOf, inForm}
+use Rattle.marking.specs.declared.Marking.{Marking}
+use Rattle.firings.specs.Lines.{linesIn}
+use Rattle.firings.specs.Form.{usedInForm, unusedInForm, liveKeys, climbs}
+use Rattle.sound.proofs.Tests.{start-placed, start-fits, from-start, too-many, unsound, by-run}
+use borrow.Author.Needs.{needs}
+use Rattle.sound.proofs.is_sound.Statement.{statement}
+use Rattle.sound.proofs.is_sound.Tie as tie
+use Rattle.sound.proofs.is_sound.Reads as reads
+use Rattle.sound.proofs.is_sound.Lts as lts
+use Rattle.firings.proofs.keys_climb.Reads as keys-climb-reads
+use Rattle.firings.proofs.unused_in_form.Reads as unused-in-form-reads
+use Rattle.firings.proofs.used_in_form.Reads as used-in-form-reads
+use Rattle.format.proofs.base_count.Reads as base-count-reads
+use Rattle.marking.proofs.in_form.Reads as in-form-reads
+use Rattle.sound.proofs.runs_to.Reads as runs-to-reads
+use Rattle.start.proofs.start_marking.Reads as start-marking-reads
+
+-- the four tests, as the definition has them
+gathered : (c : tie.After-keys-climb) → (c .before .before .before .in-form .result && (c .before .before .used-in-form .result && (c .before .unused-in-form .result && c .keys-climb .result)))
+    ≡ (inForm (basesOf (c .before .before .before .before .before .before .before .args .sheet .now)) (c .before .before .before .before .before .before .before .args .m) && (usedInForm (basesOf (c .before .before .before .before .before .before .before .args .sheet .now)) (c .before .before .before .before .before .before .before .args .live) (c .before .before .before .before .before .before .before .args .firings) && (unusedInForm (c .before .before .before .before .before .before .before .args .live) (c .before .before .before .before .before .before .before .args .firings) && climbs 0 (liveKeys (c .before .before .before .before .before .before .before .args .live) (c .before .before .before .before .before .before .before .args .firings)))))
+gathered c =
+    let n = c .before .before .before .before .before .base-count .ensures in
+    (λ i. c .before .before .before .in-form .ensures i && (c .before .before .used-in-form .ensures i && (c .before .unused-in-form .ensures i && c .keys-climb .ensures i)))
+    ∙ (λ i. inForm (n i) (c .before .before .before .before .before .before .before .args .m) && (usedInForm (n i) (c .before .before .before .before .before .before .before .args .live) (c .before .before .before .before .before .before .before .args .firings) && (unusedInForm (c .before .before .before .before .before .before .before .args .live) (c .before .before .before .before .before .before .before .args .firings) && climbs 0 (liveKeys (c .before .before .before .before .before .before .before .args .live) (c .before .before .before .before .before .before .before .args .firings)))))
+
+-- src/lib.rt:73:13
+base-count-requires : tie.Need-base-count-requires
+base-count-requires c κs = search needs
+
+-- src/lib.rt:73:13
+cast-n : tie.Need-cast-n
+cast-n c = search needs
+
+-- src/lib.rt:75:9
+returns : tie.Need-returns
+returns c = too-many (c .before .before .before .args .sheet .now) (c .before .before .before .args .m) (c .before .before .before .args .live) (c .before .before .before .args .firings) (c .if1 .taken)
+
+-- src/lib.rt:77:9
+in-form-requires : tie.Need-in-form-requires
+in-form-requires c κs = search needs
+
+-- src/lib.rt:78:9
+used-in-form-requires : tie.Need-used-in-form-requires
+used-in-form-requires c κs = search needs
+
+-- src/lib.rt:79:9
+unused-in-form-requires : tie.Need-unused-in-form-requires
+unused-in-form-requires c κs = search needs
+
+-- src/lib.rt:80:9
+keys-climb-requires : tie.Need-keys-climb-requires
+keys-climb-requires c κs = search needs
+
+-- src/lib.rt:82:9
+returns-2 : tie.Need-returns-2
+returns-2 c = unsound (c .before .before .before .before .before .before .before .before .args .sheet .now) (c .before .before .before .before .before .before .before .before .args .m) (c .before .before .before .before .before .before .before .before .args .live) (c .before .before .before .before .before .before .before .before .args .firings) (c .before .before .before .before .before .if1 .left) (sym (gathered (c .before)) ∙ not-true _ (c .if2 .taken))
+
+-- src/lib.rt:84:9
+start-marking-requires : tie.Need-start-marking-requires
+start-marking-requires c κs = start-fits _ (c .before .before .before .before .before .before .before .before .pre)
+
+-- src/lib.rt:85:5
+runs-to-requires : tie.Need-runs-to-requires
+runs-to-requires c κs =
+    let passed = sym (gathered (c .before .before)) ∙ not-false _ (c .before .if2 .left) in
+    (rw (c .start-marking .ensures) (start-placed _ (c .before .before .before .before .before .before .before .before .before .pre)), c .before .before .before .before .before .before .if1 .left, leb-true _ _ (and-l _ _ (and-l _ _ passed)))
+
+-- src/lib.rt:69:1
+returns-3 : tie.Need-returns-3
+returns-3 c =
+    let s : List ℕ = c .before .before .before .before .before .before .before .before .before .before .args .sheet .now in
+    let ls = linesIn (basesOf s) (c .before .before .before .before .before .before .before .before .before .before .args .live) (c .before .before .before .before .before .before .before .before .before .before .args .firings) in
+    let z = markingOf (basesOf s) (c .before .before .before .before .before .before .before .before .before .before .args .m) in
+    c .runs-to .ensures ∙ ap (λ (m : Marking). replays (netOf s) (markingOf (basesOf s) m) ls z) (c .before .start-marking .ensures) ∙ from-start s (c .before .before .before .before .before .before .before .before .before .before .pre) ls z
+    ∙ by-run (c .before .before .before .before .before .before .before .before .before .before .args .sheet .now) (c .before .before .before .before .before .before .before .before .before .before .args .m) (c .before .before .before .before .before .before .before .before .before .before .args .live) (c .before .before .before .before .before .before .before .before .before .before .args .firings) (c .before .before .before .before .before .before .before .if1 .left) (sym (gathered (c .before .before .before)) ∙ not-false _ (c .before .before .if2 .left))
+
+pub is-sound-spec : {M : Type 1} → statement M
+is-sound-spec =
+    tie.close
+    (tie.spec
+    base-count-requires
+    cast-n
+    returns
+    in-form-requires
+    used-in-form-requires
+    unused-in-form-requires
+    keys-climb-requires
+    returns-2
+    start-marking-requires
+    runs-to-requires
+    returns-3)
