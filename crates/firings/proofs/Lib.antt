@@ -3,3 +3,4 @@ pub mod Lists
 pub mod Rest
 pub mod Same
 pub mod Changes
+pub mod Search

@@ -2,13 +2,16 @@
 // Entries after the live ones hold 0.
 ghost use mathlib.Core.Path.{_≡_};
 ghost use mathlib.Core.Bool.{Bool, Bool·beq};
+ghost use mathlib.Core.List.{[], _∷_};
 ghost use Prim.Native.Nat.{_+_, _<_, _≤_};
 ghost use lib.Dec.{ltb};
-ghost use lib.ListN.{drop, take};
+ghost use lib.ListN.{drop, take, getD};
 ghost use Rattle.net.specs.Limits.{maxBases, maxLive};
 ghost use Rattle.net.specs.Tests.{pick, sameList};
-ghost use Rattle.firings.specs.Lines.{noFiring, closedUp};
+ghost use Rattle.firings.specs.Lines.{past, noFiring, closedUp};
+ghost use Rattle.firings.specs.Search.{lastKey, placeOf, builtOnIn};
 ghost use Rattle.firings.specs.Form.{unset, isNoFiring, usedInForm, unusedInForm, liveKeys, climbs};
+use marking::shares;
 use net::Key;
 use net::MAX_BASES;
 use net::MAX_KEY;
@@ -140,4 +143,57 @@ pub fn same_flags(a: [bool; MAX_BASES], b: [bool; MAX_BASES], n: usize) -> bool
         i += 1;
     }
     ok
+}
+
+// The key of the last live firing; 0 where none is live.
+pub fn last_key(firings: [Firing; MAX_LIVE], live: usize) -> u16
+    requires { ⌜ live ≤ maxLive ⌝ }
+    ensures { λ r. ⌜ r ≡ lastKey live firings ⌝ }
+{
+    if live == 0 {
+        return 0;
+    }
+    let f = firings[live - 1];
+    f.key.0
+}
+
+// Where the live firing of that key stands; `live` where there is none.
+pub fn place_of(firings: [Firing; MAX_LIVE], live: usize, key: Key) -> usize
+    requires { ⌜ live ≤ maxLive ⌝ }
+    ensures { λ r. ⌜ r ≡ placeOf (key .0) (liveKeys live firings) ⌝ }
+{
+    let mut i = 0;
+    while i < live {
+        let f = firings[i];
+        if f.key.0 == key.0 {
+            return i;
+        }
+        i += 1;
+    }
+    live
+}
+
+// Whether g has a higher key than f and moved a base that f moved.
+fn blocks(g: Firing, f: Firing) -> bool
+    ensures { λ r. ⌜ r ≡ builtOnIn f (g ∷ []) ⌝ }
+{
+    let a = f.moved;
+    let b = g.moved;
+    (f.key.0 < g.key.0) & shares(a, b)
+}
+
+// Whether a live firing of higher key moved a base that the live firing at i moved (refusal 20).
+pub fn built_on(firings: [Firing; MAX_LIVE], live: usize, i: usize) -> bool
+    requires { ⌜ (i < live) × (live ≤ maxLive) ⌝ }
+    ensures { λ r. ⌜ r ≡ builtOnIn (getD firings i past) (take live firings) ⌝ }
+{
+    let f = firings[i];
+    let mut found = false;
+    let mut j = 0;
+    while j < live {
+        let g = firings[j];
+        found = found | blocks(g, f);
+        j += 1;
+    }
+    found
 }

@@ -1,0 +1,44 @@
+-- Laws of searches through the live firings: a key found or not, and a test gathered with "or".
+-- Assumes nothing.
+use mathlib.Core.Path.{_≡_, refl, sym, _∙_, ap}
+use mathlib.Core.Bool.{Bool, true, false, _||_, or-false}
+use mathlib.Core.List.{List, [], _∷_, _++_}
+use Prim.Native.Nat.{ℕ, suc, _+_, _<_, _≤_}
+use native.Mathlib.Omega.{arith}
+use native.Mathlib.Numerals.{add-one}
+use lib.Dec.{eqb}
+use lib.ListN.{length, getD, take, drop, drop-of-length-le}
+use lib.Seq.{drop-cons, take-suc}
+use borrow.Author.Tests.{eq-eqb, ne-eqb}
+use Rattle.net.specs.Tests.{pick, any, table}
+use Rattle.net.proofs.Tests.{any-append}
+use Rattle.net.proofs.Tables.{length-table, getD-table}
+use Rattle.firings.specs.Search.{placeOf}
+
+-- ---- a key
+
+module _ (key : ℕ) (f : ℕ → ℕ) (n : ℕ) where
+  place-step : (i : ℕ) → i < n → placeOf key (drop i (table n f)) ≡ pick (eqb (f i) key) 0 (suc (placeOf key (drop (suc i) (table n f))))
+  place-step i h =
+      let size : i < length (table n f) = rw length-table h in
+      ap (placeOf key) (drop-cons (table n f) i 0 size) ∙ ap (λ (x : ℕ). pick (eqb x key) 0 (suc (placeOf key (drop (suc i) (table n f))))) (getD-table n f i 0 h)
+
+  pub place-found : (w i : ℕ) → i < n → w ≡ i + placeOf key (drop i (table n f)) → f i ≡ key → i ≡ w
+  place-found w i h e q = let z = place-step i h ∙ ap (λ (b : Bool). pick b 0 (suc (placeOf key (drop (suc i) (table n f))))) (eq-eqb (f i) key q) in omega arith
+
+  pub place-on : (w i : ℕ) → i < n → w ≡ i + placeOf key (drop i (table n f)) → (f i ≡ key → ⊥) → w ≡ i + 1 + placeOf key (drop (i + 1) (table n f))
+  place-on w i h e q =
+      let z = place-step i h ∙ ap (λ (b : Bool). pick b 0 (suc (placeOf key (drop (suc i) (table n f))))) (ne-eqb (f i) key q) in
+      let y : placeOf key (drop (i + 1) (table n f)) ≡ placeOf key (drop (suc i) (table n f)) = ap (λ (k : ℕ). placeOf key (drop k (table n f))) (add-one i) in
+      omega arith
+
+  pub place-none : (w i : ℕ) → n ≡ i → w ≡ i + placeOf key (drop i (table n f)) → n ≡ w
+  place-none w i h e =
+      let size : length (table n f) ≤ i = (let s = length-table n f in omega arith) in
+      let z : placeOf key (drop i (table n f)) ≡ 0 = ap (placeOf key) (drop-of-length-le (table n f) size) in
+      omega arith
+
+-- ---- a test
+
+pub any-taken : {X : Type 0} (t : X → Bool) (l : List X) (d : X) (i : ℕ) (found x : Bool) → i < length l → found ≡ any t (take i l) → x ≡ any t (getD l i d ∷ []) → (found || x) ≡ any t (take (i + 1) l)
+any-taken t l d i found x h e q = (λ j. e j || q j) ∙ sym (any-append t (take i l) (getD l i d ∷ [])) ∙ ap (any t) (sym (take-suc l i d h)) ∙ ap (λ (n : ℕ). any t (take n l)) (sym (add-one i))

@@ -1,0 +1,34 @@
+use native.Mathlib.Omega.{arith}
+use mathlib.Core.Path.{_≡_, refl, ap, sym, _∙_}
+use Prim.Native.Nat.{ℕ, suc, _+_, _-_, _*_, _<_, _≤_}
+use lib.ListN.{length, getD, take, drop, set}
+use mathlib.Core.List.{List, [], _∷_, _++_}
+use borrow.Author.Needs.{needs}
+use borrow.Author.Tests.{eq-eqb, ne-eqb}
+use Rattle.firings.proofs.last_key.Statement.{statement}
+use Rattle.firings.proofs.last_key.Tie as tie
+use Rattle.firings.proofs.last_key.Reads as reads
+use Rattle.firings.proofs.last_key.Lts as lts
+
+-- src/lib.rt:154:9
+returns : tie.Need-returns
+returns c = rw (eq-eqb _ _ (c .if1 .taken))
+
+-- src/lib.rt:156:21
+sub-f : tie.Need-sub-f
+sub-f c = search needs
+
+-- src/lib.rt:156:13
+mul-f : tie.Need-mul-f
+mul-f c = search needs
+
+-- src/lib.rt:156:13
+array-copy-out-f : tie.Need-array-copy-out-f
+array-copy-out-f c = search needs
+
+-- src/lib.rt:149:1
+returns-2 : tie.Need-returns-2
+returns-2 c = rw (ne-eqb _ _ (c .before .if1 .left))
+
+pub last-key-spec : {M : Type 1} → statement M
+last-key-spec = tie.close (tie.spec returns sub-f mul-f array-copy-out-f returns-2)
