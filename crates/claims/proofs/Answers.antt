@@ -19,7 +19,7 @@ use Rattle.sheet.proofs.Order.{clear-first}
 use Rattle.tally.specs.Counts.{countedOf}
 use Rattle.tally.specs.declared.Tally.{Tally}
 use Rattle.session.specs.declared.Record.{Record}
-use Rattle.session.specs.Soundness.{heldIn, soundFor}
+use Rattle.session.specs.Records.{heldIn, soundFor}
 use Rattle.session.specs.Commands.{refusal, answerNumber, countOf, outcomeOf, acceptOf, commandChecks, Result, outcomeFor, commandOf}
 use Rattle.session.specs.declared.Answer.{Answer}
 use Rattle.session.specs.declared.Answer.the-variants.{Fired, Undone, Refused}

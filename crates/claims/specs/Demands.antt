@@ -21,7 +21,7 @@ use Rattle.tally.specs.Counts.{oneMore}
 use Rattle.tally.specs.declared.Tally.{Tally}
 use Rattle.session.specs.Records.{recordOf}
 use Rattle.session.specs.declared.Record.{Record}
-use Rattle.session.specs.Soundness.{heldIn}
+use Rattle.session.specs.Records.{heldIn}
 use Rattle.session.specs.Commands.{freshOf, refusal, answerNumber, outcomeOf, commandChecks, Result, commandOf}
 use Rattle.session.specs.Runs.{answered, Session, runOf}
 use Rattle.session.specs.declared.Answer.{Answer}

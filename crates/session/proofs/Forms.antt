@@ -19,7 +19,8 @@ use Rattle.net.proofs.Tests.{and-i, all-i}
 use Rattle.marking.proofs.Forms.{marking-laid, laid-in-form}
 use Rattle.firings.specs.Lines.{past, lineOf, noFiring, firingOf}
 use Rattle.firings.specs.Form.{unset, isNoFiring}
-use Rattle.session.specs.Records.{journalOf, recordOf, recordInForm}
+use Rattle.sound.specs.Soundness.{journalIn, formed}
+use Rattle.session.specs.Records.{recordOf}
 use Rattle.firings.specs.declared.Firing.{Firing}
 use Rattle.session.specs.declared.Record.{Record}
 use Rattle.firings.proofs.Lists.{all-replicate, all-map, table-back}
@@ -37,7 +38,7 @@ module _ (n : ℕ) (j : Journal) (F : Fits n j) where
   line-back : (l : LiveLine) → Mem l (j .lines) → lineOf n (firingOf l) ≡ l
   line-back l m = λ i. record { transition = l .transition; key = l .key; moved = take-at (l .moved) (replicate (maxBases - length (l .moved)) false) n (F .flags l m) i }
 
-  pub journal-back : journalOf n (recordOf j) ≡ j
+  pub journal-back : journalIn n (recordOf j .marking) (recordOf j .live) (recordOf j .firings) ≡ j
   unfolding recordOf
   journal-back = λ i. record {
     marking = marking-laid (j .marking) n (F .places) i;
@@ -47,8 +48,8 @@ module _ (n : ℕ) (j : Journal) (F : Fits n j) where
   flags-unset : (l : LiveLine) → Mem l (j .lines) → unset (drop n (firingOf l .moved)) ≡ true
   flags-unset l m = rw (drop-at (l .moved) (replicate (maxBases - length (l .moved)) false) n (F .flags l m)) (all-replicate not (maxBases - length (l .moved)) false refl)
 
-  pub record-form : recordInForm n (recordOf j) ≡ true
-  unfolding recordOf recordInForm
+  pub record-form : formed n (recordOf j .marking) (recordOf j .live) (recordOf j .firings) ≡ true
+  unfolding recordOf
   record-form =
       rw (
         laid-in-form (j .marking) n (F .places) (F .bonds),

@@ -22,7 +22,8 @@ use Rattle.marking.proofs.Forms as SizedMarking
 use Rattle.marking.proofs.Forms.{form-laid}
 use Rattle.firings.specs.Lines.{past, lineOf, linesIn, noFiring, firingOf, firingsOf}
 use Rattle.firings.specs.Form.{unset, isNoFiring}
-use Rattle.session.specs.Records.{journalOf, recordOf, recordInForm}
+use Rattle.sound.specs.Soundness.{journalIn, formed}
+use Rattle.session.specs.Records.{recordOf}
 use Rattle.firings.specs.declared.Firing.{Firing}
 use Rattle.session.specs.declared.Record.{Record}
 use Rattle.firings.proofs.Lists.{padded-back, table-take, mem-take, mem-of-take, mem-of-drop, map-table, same-replicate}
@@ -51,8 +52,8 @@ no-firing f size h =
     let m : f .moved ≡ replicate maxBases false = same-replicate false (f .moved) (unset-e (f .moved) (and-r (eqb (f .key .0) 0) _ rest)) ∙ ap (λ (z : ℕ). replicate z false) size in
     λ i. record { transition = t i; key = key (k i); moved = m i }
 
-pub record-laid : (n : ℕ) (r : Record) → Sized r → n ≤ maxBases → recordInForm n r ≡ true → r ≡ recordOf (journalOf n r)
-unfolding recordInForm recordOf
+pub record-laid : (n : ℕ) (r : Record) → Sized r → n ≤ maxBases → formed n (r .marking) (r .live) (r .firings) ≡ true → r ≡ recordOf (journalIn n (r .marking) (r .live) (r .firings))
+unfolding recordOf
 record-laid n r S few h =
     let h₁ = and-r (inForm n (r .marking)) _ h in
     let live : r .live ≤ maxLive = leb-true (r .live) maxLive (and-l _ _ h₁) in

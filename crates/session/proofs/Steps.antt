@@ -21,11 +21,11 @@ use Rattle.net.proofs.History.{held-sound, sound-held}
 use Rattle.format.specs.Parts.{basesOf}
 use Rattle.format.specs.NetOf.{netOf}
 use Rattle.sheet.specs.Checks.{sheetChecks}
+use Rattle.sound.specs.Soundness.{formed, soundIn}
 use Rattle.tally.specs.declared.Tally.{Tally}
-use Rattle.session.specs.Records.{journalOf, recordOf, recordInForm}
+use Rattle.session.specs.Records.{heldIn, recordOf, soundFor}
 use Rattle.session.specs.declared.Record.{Record}
 use Rattle.session.proofs.Forms.{Fits, journal-back, record-form}
-use Rattle.session.specs.Soundness.{heldIn, soundFor}
 use Rattle.session.specs.Commands.{refusal, answerOf, keyOf, outcomeOf, acceptOf, performOf, commandChecks, Result, outcomeFor, commandOf, freshOf}
 use Rattle.session.specs.Runs.{Answered, answered, Session, runOf}
 use Rattle.session.specs.declared.Outcome.{Outcome}
@@ -71,8 +71,8 @@ module _ (s : List ℕ) (accepted : clear (sheetChecks s) ≡ true) (ok : netRul
   held-back j H = journal-back (basesOf s) j (fits j H)
 
   pub held-soundFor : (j : Journal) → Held (netOf s) j → soundFor s (recordOf j) ≡ true
-  unfolding soundFor
-  held-soundFor j H = and-i (recordInForm (basesOf s) (recordOf j)) (sound (netOf s) (heldIn s (recordOf j)))
+  unfolding soundIn
+  held-soundFor j H = and-i (formed (basesOf s) (recordOf j .marking) (recordOf j .live) (recordOf j .firings)) (sound (netOf s) (heldIn s (recordOf j)))
       (record-form (basesOf s) j (fits j H)) (ap (sound (netOf s)) (held-back j H) ∙ held-sound (netOf s) j H)
 
   -- a command on the record of a journal gives the record of the journal after it, and the journal's answer

@@ -13,9 +13,8 @@ use Rattle.format.specs.NetOf.{netOf}
 use Rattle.sheet.specs.Checks.{sheetChecks}
 use Rattle.tally.specs.Counts.{countedOf}
 use Rattle.tally.specs.declared.Tally.{Tally}
-use Rattle.session.specs.Records.{recordOf}
+use Rattle.session.specs.Records.{heldIn, recordOf, soundFor}
 use Rattle.session.specs.declared.Record.{Record}
-use Rattle.session.specs.Soundness.{heldIn, soundFor}
 use Rattle.session.specs.declared.Command.{Command}
 use Rattle.session.specs.declared.Command.the-variants.{Fire, UndoLast, Undo}
 use Rattle.session.specs.declared.Decoded.{Decoded}

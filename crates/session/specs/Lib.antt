@@ -1,5 +1,4 @@
 -- What a session is on the record: soundness, starting, one command, a list of commands.
 pub mod Records
-pub mod Soundness
 pub mod Commands
 pub mod Runs

@@ -1,26 +1,34 @@
--- The session record and the journal (01, commands, record, tally: the record's form), each as the other has it.
--- Definitions only. n is the number of bases.
-use mathlib.Core.Bool.{Bool, _&&_}
+-- The session record and the journal (01, commands, record, tally), each as the other has it; and soundness, refusal 10.
+-- Definitions only.
+use mathlib.Core.Path.{_≡_}
+use mathlib.Core.Bool.{Bool, true}
+use mathlib.Core.List.{List}
 use Prim.Native.Nat.{ℕ}
-use lib.Dec.{leb}
 use lib.ListN.{length}
-use Rattle.net.specs.Limits.{maxLive}
+use Rattle.net.specs.Checks.{clear}
 use Rattle.net.specs.Journal.{Journal}
-use Rattle.marking.specs.Form.{markingOf, laid, inForm}
-use Rattle.firings.specs.Lines.{linesIn, firingsOf}
-use Rattle.firings.specs.Form.{usedInForm, unusedInForm}
+use Rattle.format.specs.Parts.{basesOf}
+use Rattle.sheet.specs.Checks.{sheetChecks}
+use Rattle.marking.specs.Form.{laid}
+use Rattle.firings.specs.Lines.{firingsOf}
+use Rattle.sound.specs.Soundness.{journalIn, soundIn}
 use Rattle.session.specs.declared.Record.{Record}
 
--- the journal that a record holds
-abbrev pub journalOf : ℕ → Record → Journal
-journalOf n r = record { marking = markingOf n (r .marking); lines = linesIn n (r .live) (r .firings) }
+-- the journal that a record holds, on a sheet
+abbrev pub heldIn : List ℕ → Record → Journal
+heldIn s r = journalIn (basesOf s) (r .marking) (r .live) (r .firings)
 
 -- a journal in the record's form
 unfoldable pub recordOf : Journal → Record
 recordOf j = record { marking = laid (j .marking); live = length (j .lines); firings = firingsOf (j .lines) }
 
--- The form: bonds and live firings fit their arrays, and unused entries hold 0.
-unfoldable pub recordInForm : ℕ → Record → Bool
-recordInForm n r =
-    inForm n (r .marking)
-    && (leb (r .live) maxLive && (usedInForm n (r .live) (r .firings) && unusedInForm (r .live) (r .firings)))
+-- Sound for a sheet: it has the form, and its firings, run forward alone from the start, are each accepted with those
+-- moved bases and end in its places and bonds.
+abbrev pub soundFor : List ℕ → Record → Bool
+soundFor s r = soundIn s (r .marking) (r .live) (r .firings)
+
+-- What an inner command asks: an accepted sheet, a sound record, and nothing in its arrays but what it holds.
+pub record Sound (s : List ℕ) (r : Record) : Type 0 where
+  pub accepted : clear (sheetChecks s) ≡ true
+  pub sound : soundFor s r ≡ true
+  pub form : r ≡ recordOf (heldIn s r)
