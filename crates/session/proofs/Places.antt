@@ -1,0 +1,91 @@
+-- The place of a key among the lines, the line there, and what was built on it.
+-- Assumes nothing.
+use mathlib.Core.Path.{_≡_, refl, sym, _∙_, ap}
+use mathlib.Core.Logic.{inl, inr}
+use mathlib.Core.Bool.{Bool, true, false, _&&_, _||_}
+use mathlib.Core.List.{List, [], _∷_, _++_, map}
+use Prim.Native.Nat.{ℕ, zero, suc, _-_, _<_, _≤_}
+use native.Mathlib.Omega.{arith}
+use lib.Dec.{eqb, ltb}
+use lib.ListN.{length, getD, replicate}
+use borrow.Author.Tests.{eqb-true, lt-ltb}
+use Rattle.causal.specs.Lists.{Mem}
+use Rattle.net.specs.Limits.{maxBases}
+use Rattle.net.specs.Tests.{pick, any}
+use Rattle.net.specs.Journal as J
+use Rattle.net.specs.Journal.{LiveLine, sameKey, isLive, common, builtOn}
+use Rattle.net.specs.declared.Key.{Key}
+use Rattle.firings.specs.Lines.{firingOf}
+use Rattle.firings.specs.Search.{placeOf, builtOnIn}
+use Rattle.firings.specs.declared.Firing.{Firing}
+
+abbrev pub keysOf : List LiveLine → List ℕ
+keysOf ls = map (λ (l : LiveLine). l .key .0) ls
+
+-- ---- a key's place
+
+pub place-most : (k : Key) (ls : List LiveLine) → placeOf (k .0) (keysOf ls) ≤ length ls
+place-most k [] = omega arith
+place-most k (l ∷ ls) = go (sameKey (l .key) k) (place-most k ls)
+  where
+    go : (b : Bool) → placeOf (k .0) (keysOf ls) ≤ length ls → pick b 0 (suc (placeOf (k .0) (keysOf ls))) ≤ suc (length ls)
+    go true h = omega arith
+    go false h = omega arith
+
+pub place-dead : (k : Key) (ls : List LiveLine) → placeOf (k .0) (keysOf ls) ≡ length ls → isLive k ls ≡ false
+place-dead k [] e = refl
+place-dead k (l ∷ ls) e = go (sameKey (l .key) k) e (place-dead k ls)
+  where
+    go : (b : Bool) → pick b 0 (suc (placeOf (k .0) (keysOf ls))) ≡ suc (length ls) → (placeOf (k .0) (keysOf ls) ≡ length ls → isLive k ls ≡ false) → (b || isLive k ls) ≡ false
+    go true h ih = absurd (let z : ⊥ = omega arith in z)
+    go false h ih = ih (omega arith)
+
+-- where the key is live, the lines fall into those before its line, its line, and those after
+pub record Found (k : Key) (ls : List LiveLine) (i : ℕ) : Type 0 where
+  pub before : List LiveLine
+  pub after : List LiveLine
+  pub split : ls ≡ before ++ J.lineOf k ls ∷ after
+  pub place : length before ≡ i
+  pub key : J.lineOf k ls .key .0 ≡ k .0
+  pub live : isLive k ls ≡ true
+  pub line : (d : LiveLine) → getD ls i d ≡ J.lineOf k ls
+
+pub place-found : (k : Key) (ls : List LiveLine) → placeOf (k .0) (keysOf ls) < length ls → Found k ls (placeOf (k .0) (keysOf ls))
+place-found k [] h = absurd (let z : ⊥ = omega arith in z)
+place-found k (l ∷ ls) h = go (sameKey (l .key) k) refl h (place-found k ls)
+  where
+    Is : Bool → ℕ → Type 0
+    Is b i =
+        (before : List LiveLine) × (after : List LiveLine) × (l ∷ ls ≡ before ++ pick b l (J.lineOf k ls) ∷ after) × (length before ≡ i)
+        × (pick b l (J.lineOf k ls) .key .0 ≡ k .0) × ((b || isLive k ls) ≡ true) × ((d : LiveLine) → getD (l ∷ ls) i d ≡ pick b l (J.lineOf k ls))
+
+    pack : Is (sameKey (l .key) k) (placeOf (k .0) (keysOf (l ∷ ls))) → Found k (l ∷ ls) (placeOf (k .0) (keysOf (l ∷ ls)))
+    pack (u, v, e, p, q, a, f) = record { before = u; after = v; split = e; place = p; key = q; live = a; line = f }
+
+    is : (b : Bool) → sameKey (l .key) k ≡ b → pick b 0 (suc (placeOf (k .0) (keysOf ls))) < suc (length ls)
+        → (placeOf (k .0) (keysOf ls) < length ls → Found k ls (placeOf (k .0) (keysOf ls))) → Is b (pick b 0 (suc (placeOf (k .0) (keysOf ls))))
+    is true e g ih = ([], ls, refl, refl, eqb-true (l .key .0) (k .0) e, refl, λ d. refl)
+    is false e g ih =
+        let F = ih (omega arith) in
+        (l ∷ F .before, F .after, (λ i. l ∷ F .split i), ap suc (F .place), F .key, F .live, F .line)
+
+    go : (b : Bool) → sameKey (l .key) k ≡ b → placeOf (k .0) (keysOf (l ∷ ls)) < suc (length ls)
+        → (placeOf (k .0) (keysOf ls) < length ls → Found k ls (placeOf (k .0) (keysOf ls))) → Found k (l ∷ ls) (placeOf (k .0) (keysOf (l ∷ ls)))
+    go b e g ih = pack (is (sameKey (l .key) k) refl g ih)
+
+-- ---- flags with unset ones after them
+
+common-pad : (a b : List Bool) (x y : ℕ) → length a ≡ length b → common (a ++ replicate x false) (b ++ replicate y false) ≡ common a b
+common-pad [] [] zero y e = refl
+common-pad [] [] (suc x) zero e = refl
+common-pad [] [] (suc x) (suc y) e = common-pad [] [] x y e
+common-pad [] (c ∷ b) x y e = absurd (let z : ⊥ = omega arith in z)
+common-pad (c ∷ a) [] x y e = absurd (let z : ⊥ = omega arith in z)
+common-pad (c ∷ a) (d ∷ b) x y e = ap (λ (h : Bool). (c && d) || h) (common-pad a b x y (omega arith))
+
+pub built-lines : (n : ℕ) (l : LiveLine) (ls : List LiveLine) → length (l .moved) ≡ n → ((k : LiveLine) → Mem k ls → length (k .moved) ≡ n) → builtOnIn (firingOf l) (map firingOf ls) ≡ builtOn ls l
+built-lines n l [] e h = refl
+built-lines n l (k ∷ ls) e h =
+    let c : common (firingOf l .moved) (firingOf k .moved) ≡ common (l .moved) (k .moved) = common-pad (l .moved) (k .moved) (maxBases - length (l .moved)) (maxBases - length (k .moved)) (e ∙ sym (h k (inl refl))) in
+    let rest : builtOnIn (firingOf l) (map firingOf ls) ≡ builtOn ls l = built-lines n l ls e (λ j m. h j (inr m)) in
+    λ i. (ltb (l .key .0) (k .key .0) && c i) || rest i

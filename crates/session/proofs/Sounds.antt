@@ -1,0 +1,83 @@
+-- What a sound record gives an inner command: a held journal, a good marking in its form, the last key.
+-- Assumes a sound record on an accepted sheet.
+use mathlib.Core.Path.{_≡_, refl, sym, _∙_, ap, subst}
+use mathlib.Core.Logic.{inl, inr}
+use mathlib.Core.Bool.{Bool, true, false, not, _&&_}
+use mathlib.Core.List.{List, [], _∷_, _++_}
+use Prim.Native.Nat.{ℕ, zero, suc, _+_, _-_, _<_, _≤_, max}
+use native.Mathlib.Omega.{arith}
+use lib.Dec.{eqb}
+use lib.ListN.{length, getD}
+use borrow.Author.Tests.{eq-eqb, ne-eqb}
+use Rattle.causal.specs.Lists.{Mem}
+use Rattle.causal.proofs.Lists.{mem-mid}
+use Rattle.net.specs.Limits.{maxBases, maxLive}
+use Rattle.net.specs.Tests.{pick, table}
+use Rattle.net.specs.Net.{Net}
+use Rattle.net.specs.Rules.{netRule}
+use Rattle.net.specs.Marking.{Good}
+use Rattle.net.specs.Journal.{LiveLine, Journal, highestLive, lastGiven}
+use Rattle.net.specs.History.{sound}
+use Rattle.net.proofs.Tests.{and-r}
+use Rattle.net.proofs.Tables.{length-table, table-snoc}
+use Rattle.net.proofs.Keys.{Up, highest-snoc}
+use Rattle.net.proofs.Journal.{Held}
+use Rattle.net.proofs.History.{sound-held}
+use Rattle.net.proofs.Totals.{held-totals}
+use Rattle.format.specs.Parts.{basesOf}
+use Rattle.format.specs.NetOf.{netOf}
+use Rattle.sheet.proofs.Accepted.{promised}
+use Rattle.marking.specs.Form.{markingOf, laid}
+use Rattle.firings.specs.Lines.{past, lineOf, linesIn, firingsOf}
+use Rattle.firings.specs.Search.{lastKey}
+use Rattle.firings.specs.declared.Firing.{Firing}
+use Rattle.sound.specs.Soundness.{formed, soundIn}
+use Rattle.steps.specs.Placed.{Placed}
+use Rattle.session.specs.Records.{heldIn, recordOf, Sound}
+use Rattle.session.specs.declared.Record.{Record}
+
+module _ (s : List ℕ) (r : Record) (S : Sound s r) where
+  pub rule : netRule (netOf s) ≡ true
+  rule = promised s (S .accepted) .rule
+
+  pub few : basesOf s ≤ maxBases
+  few = promised s (S .accepted) .bases .1
+
+  pub held : Held (netOf s) (heldIn s r)
+  unfolding soundIn
+  held = sound-held (netOf s) (heldIn s r) (and-r (formed (basesOf s) (r .marking) (r .live) (r .firings)) _ (S .sound))
+
+  pub marking-good : Good (netOf s) (heldIn s r .marking)
+  marking-good = held-totals (netOf s) rule (heldIn s r) held .good
+
+  pub placed : Placed s (r .marking)
+  unfolding recordOf
+  placed = record { accepted = S .accepted; form = ap (λ (x : Record). x .marking) (S .form); good = marking-good }
+
+  pub live-is : r .live ≡ length (heldIn s r .lines)
+  live-is = sym (length-table (r .live) (λ i. lineOf (basesOf s) (getD (r .firings) i past)))
+
+  pub live-few : r .live ≤ maxLive
+  live-few = let e = live-is in let h = held .few in omega arith
+
+  pub firings-are : r .firings ≡ firingsOf (heldIn s r .lines)
+  unfolding recordOf
+  firings-are = ap (λ (x : Record). x .firings) (S .form)
+
+-- ---- the last key
+
+up-below : (xs : List LiveLine) (l : LiveLine) → Up (xs ++ (l ∷ [])) → highestLive xs ≤ l .key .0
+up-below [] l u = omega arith
+up-below (x ∷ xs) l u = let a = u .0 l (mem-mid l xs []) in let b = up-below xs l (u .1) in omega arith
+
+last-of : (g : ℕ → LiveLine) (k : ℕ) → Up (table (suc k) g) → highestLive (table (suc k) g) ≡ g k .key .0
+last-of g k u =
+    let u′ : Up (table k g ++ (g k ∷ [])) = subst (λ (x : List LiveLine). Up x) (table-snoc k g) u in
+    ap highestLive (table-snoc k g) ∙ highest-snoc (table k g) (g k) (up-below (table k g) (g k) u′)
+
+pub last-given : (n k : ℕ) (fs : List Firing) → Up (linesIn n k fs) → lastKey k fs ≡ highestLive (linesIn n k fs)
+last-given n zero fs u = refl
+last-given n (suc k) fs u =
+    let e : suc k - 1 ≡ k = omega arith in
+    ap (λ (b : Bool). pick b 0 (getD fs (suc k - 1) past .key .0)) (ne-eqb (suc k) 0 (λ h. omega arith)) ∙ ap (λ (j : ℕ). getD fs j past .key .0) e
+    ∙ sym (last-of (λ i. lineOf n (getD fs i past)) k u)
