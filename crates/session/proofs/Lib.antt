@@ -1,8 +1,10 @@
 -- Laws of commands on a record.
 pub mod Decoding
+pub mod Performing
 pub mod Forms
 pub mod Sized
 pub mod Sounds
 pub mod Places
+pub mod Fires
 pub mod Fits
 pub mod Steps

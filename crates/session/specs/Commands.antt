@@ -7,8 +7,9 @@ use lib.Dec.{eqb}
 use Rattle.net.specs.Tests.{pick}
 use Rattle.net.specs.Checks.{Check, check, clear, first}
 use Rattle.net.specs.Journal as J
-use Rattle.net.specs.Journal.{Journal, key, kindOf, numberOf, unreadable, transitionNamed, keyNamed, fireReply, undoReply, begin, checks}
+use Rattle.net.specs.Journal.{Journal, key, kindOf, numberOf, unreadable, transitionNamed, keyNamed, fireChecks, undoChecks, fireReply, undoReply, begin, checks}
 use Rattle.net.specs.declared.Key.{Key}
+use Rattle.net.specs.declared.Transition.{Transition}
 use Rattle.format.specs.NetOf.{netOf}
 use Rattle.sheet.specs.Checks.{sheetChecks}
 use Rattle.tally.specs.Counts.{countedOf}
@@ -89,6 +90,14 @@ outcomeOf y = record { answer = answerOf (y .answer); key = keyOf (y .answer); s
 -- What an accepted command does: what it does to the journal that the record holds.
 abbrev pub acceptOf : List ℕ → Record → List ℕ → Outcome
 acceptOf s r c = outcomeOf (pick (eqb (kindOf c) 1) (fireReply (netOf s) (heldIn s r) (transitionNamed c)) (undoReply (netOf s) (heldIn s r) (keyNamed (heldIn s r) c)))
+
+-- A firing: 12 to 18 in order, or the journal's firing.
+unfoldable pub fireOutcome : List ℕ → Record → Transition → Outcome
+fireOutcome s r t = pick (clear (fireChecks (netOf s) (heldIn s r) t)) (outcomeOf (fireReply (netOf s) (heldIn s r) t)) (refusal r (first (fireChecks (netOf s) (heldIn s r) t)))
+
+-- A taking back: 19 or 20, or the journal's taking back.
+unfoldable pub undoOutcome : List ℕ → Record → Key → Outcome
+undoOutcome s r k = pick (clear (undoChecks (heldIn s r) k)) (outcomeOf (undoReply (netOf s) (heldIn s r) k)) (refusal r (first (undoChecks (heldIn s r) k)))
 
 -- A command on a sound record and an accepted sheet: 21, or 11 to 20 in order.
 unfoldable pub performOf : List ℕ → Record → List ℕ → Outcome

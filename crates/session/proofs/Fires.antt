@@ -1,0 +1,111 @@
+-- A firing on a sound record: one law for each return of the command.
+-- Assumes a sound record on an accepted sheet.
+use mathlib.Core.Path.{_≡_, refl, sym, _∙_, ap}
+use mathlib.Core.Bool.{Bool, true, false, not, _&&_}
+use mathlib.Core.List.{List, [], _∷_, _++_}
+use Prim.Native.Nat.{ℕ, suc, _+_, _<_, _≤_}
+use native.Mathlib.Omega.{arith}
+use native.Mathlib.Numerals.{add-one}
+use lib.Dec.{eqb, leb}
+use lib.ListN.{length, set, length-append}
+use borrow.Author.Tests.{le-leb, lt-leb, eq-eqb, ne-eqb}
+use Rattle.net.specs.Limits.{maxLive, maxKey}
+use Rattle.net.specs.Tests.{pick}
+use Rattle.net.specs.Net.{arcsOf}
+use Rattle.net.specs.Firing.{moved, fire}
+use Rattle.net.specs.Checks.{Check, clear, first}
+use Rattle.net.specs.Journal.{LiveLine, Journal, key, lastGiven, enableChecks, spaceChecks, fireChecks, newLine, fireReply}
+use Rattle.net.specs.declared.Transition.{Transition}
+use Rattle.net.proofs.Checks.{clear-append}
+use Rattle.format.specs.Parts.{basesOf, transitionsOf}
+use Rattle.format.specs.NetOf.{netOf}
+use Rattle.sheet.proofs.Order.{first-append}
+use Rattle.marking.specs.Form.{markingOf, laid, flags}
+use Rattle.marking.specs.declared.Marking.{Marking}
+use Rattle.firings.specs.Lines.{firingOf, firingsOf}
+use Rattle.firings.specs.Search.{lastKey}
+use Rattle.firings.specs.declared.Firing.{Firing}
+use Rattle.firings.proofs.Changes.{with-line}
+use Rattle.sound.proofs.Lines.{enabled-first, enabled-listed}
+use Rattle.session.specs.Records.{heldIn, recordOf, Sound}
+use Rattle.session.specs.Commands.{refusal, outcomeOf, fireOutcome}
+use Rattle.session.specs.declared.Record.{Record}
+use Rattle.session.specs.declared.Outcome.{Outcome}
+use Rattle.session.specs.declared.Answer.the-variants.{Fired}
+use Rattle.session.proofs.Sounds.{held, live-is, firings-are, last-given}
+
+module _ (s : List ℕ) (r : Record) (t : Transition) (S : Sound s r) where
+  abbrev j : Journal
+  j = heldIn s r
+
+  abbrev es : List Check
+  es = enableChecks (netOf s) (j .marking) t
+
+  -- the outcome, by what the two lists of checks say
+  by-first : (a : Bool) (n : ℕ) → clear (fireChecks (netOf s) j t) ≡ a → first (fireChecks (netOf s) j t) ≡ n → fireOutcome s r t ≡ pick a (outcomeOf (fireReply (netOf s) j t)) (refusal r n)
+  unfolding fireOutcome
+  by-first a n e f = λ i. pick (e i) (outcomeOf (fireReply (netOf s) j t)) (refusal r (f i))
+
+  clear-is : clear (fireChecks (netOf s) j t) ≡ (eqb (first es) 0 && clear (spaceChecks j))
+  clear-is = clear-append es (spaceChecks j) ∙ ap (λ (b : Bool). b && clear (spaceChecks j)) (enabled-first (netOf s) (j .marking) t)
+
+  first-is : first (fireChecks (netOf s) j t) ≡ pick (eqb (first es) 0) (first (spaceChecks j)) (first es)
+  first-is = first-append es (spaceChecks j) refl
+
+  pub not-enabled : (n : ℕ) → n ≡ first es → (n ≡ 0 → ⊥) → refusal r n ≡ fireOutcome s r t
+  not-enabled n e h =
+      let q : eqb (first es) 0 ≡ false = ap (λ (k : ℕ). eqb k 0) (sym e) ∙ ne-eqb n 0 h in
+      sym (by-first false n (clear-is ∙ ap (λ (b : Bool). b && clear (spaceChecks j)) q) (first-is ∙ ap (λ (b : Bool). pick b (first (spaceChecks j)) (first es)) q ∙ sym e))
+
+  module _ (n : ℕ) (e : n ≡ first es) (z : n ≡ 0) where
+    enabled : eqb (first es) 0 ≡ true
+    enabled = ap (λ (k : ℕ). eqb k 0) (sym e) ∙ eq-eqb n 0 z
+
+    clear-space : clear (fireChecks (netOf s) j t) ≡ clear (spaceChecks j)
+    clear-space = clear-is ∙ ap (λ (b : Bool). b && clear (spaceChecks j)) enabled
+
+    first-space : first (fireChecks (netOf s) j t) ≡ first (spaceChecks j)
+    first-space = first-is ∙ ap (λ (b : Bool). pick b (first (spaceChecks j)) (first es)) enabled
+
+    pub listed : t .0 < transitionsOf s
+    listed = enabled-listed s (j .marking) t (enabled-first (netOf s) (j .marking) t ∙ enabled)
+
+    pub full : maxLive ≤ r .live → refusal r 17 ≡ fireOutcome s r t
+    full h =
+        let q : leb maxLive (length (j .lines)) ≡ true = ap (leb maxLive) (sym (live-is s r S)) ∙ le-leb maxLive (r .live) h in
+        sym (by-first false 17 (clear-space ∙ rw q) (first-space ∙ rw q))
+
+    module _ (room : r .live < maxLive) (last : ℕ) (el : last ≡ lastKey (r .live) (r .firings)) where
+      given : last ≡ lastGiven j
+      given = el ∙ last-given (basesOf s) (r .live) (r .firings) (held s r S .up)
+
+      not-full : leb maxLive (length (j .lines)) ≡ false
+      not-full = ap (leb maxLive) (sym (live-is s r S)) ∙ lt-leb maxLive (r .live) room
+
+      pub spent : maxKey ≤ last → refusal r 18 ≡ fireOutcome s r t
+      spent h =
+          let q : leb maxKey (lastGiven j) ≡ true = ap (leb maxKey) (sym given) ∙ le-leb maxKey last h in
+          sym (by-first false 18 (clear-space ∙ rw (not-full, q)) (first-space ∙ rw (not-full, q)))
+
+      pub done : last < maxKey → (m : Marking) (x : List Bool) → m ≡ laid (fire (basesOf s) (arcsOf (netOf s) t) (markingOf (basesOf s) (r .marking)))
+          → x ≡ flags (moved (basesOf s) (arcsOf (netOf s) t) (markingOf (basesOf s) (r .marking)))
+          → record {
+            answer = Fired;
+            key = key (last + 1);
+            session = record { marking = m; live = r .live + 1; firings = set (r .firings) (r .live) (record { transition = t .0; key = key (last + 1); moved = x }) };
+          } ≡ fireOutcome s r t
+      unfolding recordOf netOf
+      done h m x em ex =
+          let q : leb maxKey (lastGiven j) ≡ false = ap (leb maxKey) (sym given) ∙ lt-leb maxKey last h in
+          let l : LiveLine = newLine (netOf s) j t in
+          let k : last + 1 ≡ suc (lastGiven j) = add-one last ∙ ap suc given in
+          let size : length (j .lines) < maxLive = (let a = live-is s r S in omega arith) in
+          let live : r .live + 1 ≡ length (j .lines ++ (l ∷ [])) = (let a = live-is s r S in let b = length-append (j .lines) (l ∷ []) in omega arith) in
+          let fs : set (r .firings) (r .live) (record { transition = t .0; key = key (last + 1); moved = x }) ≡ firingsOf (j .lines ++ (l ∷ [])) =
+          (λ i. set (firings-are s r S i) (live-is s r S i) (record { transition = t .0; key = key (k i); moved = ex i })) ∙ with-line (j .lines) l size in
+          let so : record {
+            answer = Fired;
+            key = key (last + 1);
+            session = record { marking = m; live = r .live + 1; firings = set (r .firings) (r .live) (record { transition = t .0; key = key (last + 1); moved = x }) };
+          } ≡ outcomeOf (fireReply (netOf s) j t) = λ i. record { answer = Fired; key = key (k i); session = record { marking = em i; live = live i; firings = fs i } } in
+          so ∙ sym (by-first true 0 (clear-space ∙ rw (not-full, q)) (first-space ∙ rw (not-full, q)))

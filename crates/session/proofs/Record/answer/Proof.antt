@@ -1,0 +1,65 @@
+use native.Mathlib.Omega.{arith}
+use mathlib.Core.Path.{_≡_, refl, ap, sym, _∙_}
+use Prim.Native.Nat.{ℕ, suc, _+_, _-_, _*_, _<_, _≤_}
+use lib.ListN.{length, getD, take, drop, set}
+use mathlib.Core.List.{List, [], _∷_, _++_}
+use borrow.Author.Needs.{needs}
+use Rattle.session.proofs.Record.answer.Statement.{statement}
+use Rattle.session.proofs.Record.answer.Tie as tie
+use Rattle.session.proofs.Record.answer.Reads as reads
+use Rattle.session.proofs.Record.answer.Lts as lts
+use Rattle.session.proofs.Record.perform.Reads as perform-reads
+use Rattle.session.proofs.Record.refused.Reads as refused-reads
+use Rattle.sheet.proofs.check_sheet.Reads as check-sheet-reads
+use Rattle.sheet.proofs.sheet_number.Reads as sheet-number-reads
+use Rattle.sound.proofs.is_sound.Reads as is-sound-reads
+
+-- src/lib.rt:221:13
+check-sheet-requires : tie.Need-check-sheet-requires
+check-sheet-requires c κs = search needs
+
+-- src/lib.rt:222:13
+sheet-number-requires : tie.Need-sheet-number-requires
+sheet-number-requires c κs = search needs
+
+-- src/lib.rt:224:13
+refused-requires : tie.Need-refused-requires
+refused-requires c κs = search needs
+
+-- src/lib.rt:224:13
+returns : tie.Need-returns
+returns c = search needs
+
+-- src/lib.rt:229:13
+is-sound-requires : tie.Need-is-sound-requires
+is-sound-requires c κs = search needs
+
+-- src/lib.rt:230:13
+refused-requires-2 : tie.Need-refused-requires-2
+refused-requires-2 c κs = search needs
+
+-- src/lib.rt:230:13
+returns-2 : tie.Need-returns-2
+returns-2 c = search needs
+
+-- src/lib.rt:232:9
+perform-requires : tie.Need-perform-requires
+perform-requires c κs = search needs
+
+-- src/lib.rt:218:5
+returns-3 : tie.Need-returns-3
+returns-3 c = search needs
+
+pub answer-spec : {M : Type 1} → statement M
+answer-spec =
+    tie.close
+    (tie.spec
+    check-sheet-requires
+    sheet-number-requires
+    refused-requires
+    returns
+    is-sound-requires
+    refused-requires-2
+    returns-2
+    perform-requires
+    returns-3)

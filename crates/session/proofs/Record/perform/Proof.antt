@@ -1,0 +1,105 @@
+use native.Mathlib.Omega.{arith}
+use mathlib.Core.Path.{_≡_, refl, ap, sym, _∙_}
+use Prim.Native.Nat.{ℕ, suc, _+_, _-_, _*_, _<_, _≤_}
+use lib.ListN.{length, getD, take, drop, set}
+use mathlib.Core.List.{List, [], _∷_, _++_}
+use borrow.Author.Needs.{needs}
+use Rattle.session.proofs.Record.perform.Statement.{statement}
+use Rattle.session.proofs.Record.perform.Tie as tie
+use Rattle.session.proofs.Record.perform.Reads as reads
+use Rattle.session.proofs.Record.perform.Lts as lts
+use Rattle.firings.proofs.last_key.Reads as last-key-reads
+use Rattle.session.proofs.Record.fire.Reads as fire-reads
+use Rattle.session.proofs.Record.refused.Reads as refused-reads
+use Rattle.session.proofs.Record.undo.Reads as undo-reads
+use Rattle.session.proofs.decode.Reads as decode-reads
+
+-- src/lib.rt:199:13
+refused-requires : tie.Need-refused-requires
+refused-requires c κs = search needs
+
+-- src/lib.rt:199:13
+returns : tie.Need-returns
+returns c = search needs
+
+-- src/lib.rt:201:13
+decode-requires : tie.Need-decode-requires
+decode-requires c κs = search needs
+
+-- src/lib.rt:202:28
+enum-known-read : tie.Need-enum-known-read
+enum-known-read c = search needs
+
+-- src/lib.rt:203:13
+enum-told : tie.Need-enum-told
+enum-told c = search needs
+
+-- src/lib.rt:203:13
+refused-requires-2 : tie.Need-refused-requires-2
+refused-requires-2 c κs = search needs
+
+-- src/lib.rt:203:13
+returns-2 : tie.Need-returns-2
+returns-2 c = search needs
+
+-- src/lib.rt:206:27
+enum-known-c : tie.Need-enum-known-c
+enum-known-c c = search needs
+
+-- src/lib.rt:206:33
+fire-requires : tie.Need-fire-requires
+fire-requires c κs = search needs
+
+-- src/lib.rt:207:27
+enum-known-c-2 : tie.Need-enum-known-c-2
+enum-known-c-2 c = search needs
+
+-- src/lib.rt:207:33
+undo-requires : tie.Need-undo-requires
+undo-requires c κs = search needs
+
+-- src/lib.rt:209:21
+enum-told-2 : tie.Need-enum-told-2
+enum-told-2 c = search needs
+
+-- src/lib.rt:211:21
+last-key-requires : tie.Need-last-key-requires
+last-key-requires c κs = search needs
+
+-- src/lib.rt:212:17
+undo-requires-2 : tie.Need-undo-requires-2
+undo-requires-2 c κs = search needs
+
+-- src/lib.rt:194:5
+returns-3 : tie.Need-returns-3
+returns-3 c = search needs
+
+-- src/lib.rt:194:5
+returns-4 : tie.Need-returns-4
+returns-4 c = search needs
+
+-- src/lib.rt:194:5
+returns-5 : tie.Need-returns-5
+returns-5 c = search needs
+
+pub perform-spec : {M : Type 1} → statement M
+perform-spec =
+    tie.close
+    (tie.spec
+    refused-requires
+    returns
+    decode-requires
+    enum-known-read
+    enum-told
+    refused-requires-2
+    returns-2
+    enum-known-c
+    fire-requires
+    enum-known-c-2
+    undo-requires
+    enum-told-2
+    last-key-requires
+    undo-requires-2
+    returns-3
+    returns-4
+    returns-5)

@@ -1,0 +1,85 @@
+use native.Mathlib.Omega.{arith}
+use mathlib.Core.Path.{_≡_, refl, ap, sym, _∙_}
+use Prim.Native.Nat.{ℕ, suc, _+_, _-_, _*_, _<_, _≤_}
+use lib.ListN.{length, getD, take, drop, set}
+use mathlib.Core.List.{List, [], _∷_, _++_}
+use borrow.Author.Needs.{needs}
+use Rattle.session.proofs.Record.undo.Statement.{statement}
+use Rattle.session.proofs.Record.undo.Tie as tie
+use Rattle.session.proofs.Record.undo.Reads as reads
+use Rattle.session.proofs.Record.undo.Lts as lts
+use Rattle.firings.proofs.built_on.Reads as built-on-reads
+use Rattle.firings.proofs.closed_up.Reads as closed-up-reads
+use Rattle.firings.proofs.place_of.Reads as place-of-reads
+use Rattle.session.proofs.Record.refused.Reads as refused-reads
+use Rattle.steps.proofs.undone.Reads as undone-reads
+
+-- src/lib.rt:171:13
+place-of-requires : tie.Need-place-of-requires
+place-of-requires c κs = search needs
+
+-- src/lib.rt:173:13
+refused-requires : tie.Need-refused-requires
+refused-requires c κs = search needs
+
+-- src/lib.rt:173:13
+returns : tie.Need-returns
+returns c = search needs
+
+-- src/lib.rt:175:12
+built-on-requires : tie.Need-built-on-requires
+built-on-requires c κs = search needs
+
+-- src/lib.rt:176:13
+refused-requires-2 : tie.Need-refused-requires-2
+refused-requires-2 c κs = search needs
+
+-- src/lib.rt:176:13
+returns-2 : tie.Need-returns-2
+returns-2 c = search needs
+
+-- src/lib.rt:178:17
+mul-f : tie.Need-mul-f
+mul-f c = search needs
+
+-- src/lib.rt:178:17
+array-copy-out-f : tie.Need-array-copy-out-f
+array-copy-out-f c = search needs
+
+-- src/lib.rt:180:50
+cast-t19 : tie.Need-cast-t19
+cast-t19 c = search needs
+
+-- src/lib.rt:180:13
+undone-requires : tie.Need-undone-requires
+undone-requires c κs = search needs
+
+-- src/lib.rt:181:13
+closed-up-requires : tie.Need-closed-up-requires
+closed-up-requires c κs = search needs
+
+-- src/lib.rt:187:23
+sub-t15 : tie.Need-sub-t15
+sub-t15 c = search needs
+
+-- src/lib.rt:164:5
+returns-3 : tie.Need-returns-3
+returns-3 c = search needs
+
+pub undo-spec : {M : Type 1} → statement M
+undo-spec =
+    tie.close
+    (tie.spec
+    place-of-requires
+    refused-requires
+    returns
+    built-on-requires
+    refused-requires-2
+    returns-2
+    mul-f
+    array-copy-out-f
+    cast-t19
+    undone-requires
+    closed-up-requires
+    sub-t15
+    returns-3)
