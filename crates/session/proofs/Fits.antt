@@ -22,7 +22,7 @@ use Rattle.net.proofs.Pairs.{few-bonds}
 use Rattle.session.proofs.Forms.{Fits}
 
 -- each line of a run has a flag for each base
-run-flags : (net : Net) (ls : List LiveLine) (s z : Marking) → Run (Fires net) s ls z → (l : LiveLine) → Mem l ls → length (l .moved) ≡ net .bases
+pub run-flags : (net : Net) (ls : List LiveLine) (s z : Marking) → Run (Fires net) s ls z → (l : LiveLine) → Mem l ls → length (l .moved) ≡ net .bases
 run-flags net [] s z r l m = absurd m
 run-flags net (k ∷ ls) s z r l (inl e) = ap (λ (x : LiveLine). length (x .moved)) e ∙ ap length (r .1 .moves-m) ∙ length-table (net .bases) (moves (s .bonds) (arcsOf net (k .transition) .entries))
 run-flags net (k ∷ ls) s z r l (inr m) = run-flags net ls (r .0) z (r .2) l m

@@ -5,6 +5,7 @@ pub mod Forms
 pub mod Sized
 pub mod Sounds
 pub mod Places
-pub mod Fires
 pub mod Fits
+pub mod Fires
+pub mod Undoes
 pub mod Steps
