@@ -1,1 +1,78 @@
--- x
+-- Firing and taking back keep a marking in its form and good: so a step is ready again after each, and bonds always fit.
+-- Assumes nothing.
+use mathlib.Core.Path.{_≡_, refl, sym, _∙_, ap, subst, fun-ext}
+use mathlib.Core.Bool.{Bool, true, false}
+use mathlib.Core.List.{List, [], _∷_, _++_}
+use Prim.Native.Nat.{ℕ, zero, suc, _*_, _-_, _≤_}
+use native.Mathlib.Omega.{arith}
+use lib.ListN.{length, getD, replicate}
+use Rattle.net.specs.Limits.{maxBases, maxBonds}
+use Rattle.net.specs.Tests.{pick, table}
+use Rattle.net.specs.Sorted.{Ascending}
+use Rattle.net.specs.Marking.{Good}
+use Rattle.net.specs.Firing.{inSet, tornApart, sent, fire, undo}
+use Rattle.net.specs.declared.Bond.{Bond}
+use Rattle.net.specs.declared.Entry.{Entry}
+use Rattle.net.proofs.Moves.{Fit}
+use Rattle.net.proofs.Fire.{fire-good}
+use Rattle.net.specs.Net.{Arcs, Marking as NetMarking, Net, sameBond, lessBond, hasBond, place}
+use Rattle.marking.specs.Form.{flags, bondsOf, markingOf, laid, inForm}
+use Rattle.marking.proofs.Forms.{bonds-padded, marking-laid, laid-in-form}
+use Rattle.enabling.specs.Ready.{Ready}
+use Rattle.enabling.proofs.Readiness.{bonds-fit}
+
+-- ---- a set of bases and the flags that hold it are the same set
+
+getD-same : {X : Type 0} (k : ℕ) (d : X) (p : ℕ) → getD (replicate k d) p d ≡ d
+getD-same zero d p = refl
+getD-same (suc k) d zero = refl
+getD-same (suc k) d (suc p) = getD-same k d p
+
+getD-padded : {X : Type 0} (l : List X) (k : ℕ) (d : X) (p : ℕ) → getD (l ++ replicate k d) p d ≡ getD l p d
+getD-padded [] k d p = getD-same k d p
+getD-padded (x ∷ l) k d zero = refl
+getD-padded (x ∷ l) k d (suc p) = getD-padded l k d p
+
+pub in-flags : (l : List Bool) (p : ℕ) → inSet (flags l) p ≡ inSet l p
+in-flags l p = getD-padded l (maxBases - length l) false p
+
+-- taking back with the flags is taking back with the set
+pub undo-flags : (n : ℕ) (t : Arcs) (l : List Bool) (s : NetMarking) → undo n t (flags l) s ≡ undo n t l s
+undo-flags n t l s =
+    let bs : List Bond = undo n t l s .bonds in
+    let go : (ℕ → Bool) → ℕ → ℕ = λ f p. pick (f p) (sent (λ (e : Entry). e .from) bs (t .entries) p (place s p)) (place s p) in
+    ap (λ (f : ℕ → Bool). record { places = table n (go f); bonds = bs }) (fun-ext (in-flags l))
+
+-- ---- a good marking, laid
+
+module _ (net : Net) (few : net .bases ≤ maxBases) (s : NetMarking) (G : Good net s) where
+  pub good-room : length (s .bonds) ≤ maxBonds
+  good-room =
+      let a : 2 * length (s .bonds) ≤ maxBases * (maxBases - 1) = bonds-fit (net .bases) maxBases few (s .bonds) (G .order) (G .range) in
+      omega arith
+
+  pub good-form : inForm (net .bases) (laid s) ≡ true
+  good-form = laid-in-form s (net .bases) (G .size) good-room
+
+  -- a step of an accepted sheet can be looked at
+  pub good-ready : (t : Arcs) → Fit net t → Ready (net .bases) t (laid s)
+  good-ready t F =
+      let e : s .bonds ≡ bondsOf (laid s) = sym (bonds-padded (s .bonds) maxBonds) in
+      record {
+        few = few;
+        form = ap laid (sym (marking-laid s (net .bases) (G .size)));
+        order = subst (Ascending sameBond lessBond) e (G .order);
+        range = λ b h. G .range b (ap (hasBond b) e ∙ h);
+        bases = F .bases;
+        outs = λ b h. let (a, d, J, _) = F .outs b h in (F .low b h, rw (← J .hi) (F .bases d (J .second)));
+      }
+
+  -- what the struct gives is what the marking gives, and it is good (for taking back: net's Undo.undo-good)
+  pub fire-laid : (t : Arcs) → laid (fire (net .bases) t (markingOf (net .bases) (laid s))) ≡ laid (fire (net .bases) t s)
+  fire-laid t = ap (λ (z : NetMarking). laid (fire (net .bases) t z)) (marking-laid s (net .bases) (G .size))
+
+  pub fire-stays-good : (t : Arcs) → Fit net t → tornApart t s ≡ false → Good net (fire (net .bases) t s)
+  fire-stays-good t F way = fire-good net s G t F way
+
+  pub undo-laid : (t : Arcs) (l : List Bool) → laid (undo (net .bases) t (flags l) (markingOf (net .bases) (laid s))) ≡ laid (undo (net .bases) t l s)
+  undo-laid t l = ap laid (undo-flags (net .bases) t l (markingOf (net .bases) (laid s)) ∙ ap (undo (net .bases) t l) (marking-laid s (net .bases) (G .size)))
