@@ -3,4 +3,3 @@ pub mod Padding
 pub mod Shifts
 pub mod Forms
 pub mod Sets
-pub mod Same

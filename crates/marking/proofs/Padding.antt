@@ -1,14 +1,13 @@
 -- Laws of lists with zeros after them: a loop that fills a list of zeros, and a list that is zero from k on.
 -- Assumes nothing.
 use mathlib.Core.Path.{_≡_, refl, sym, _∙_, ap}
-use mathlib.Core.Bool.{Bool, true, _&&_, and-assoc, and-true}
+use mathlib.Core.Bool.{true}
 use mathlib.Core.List.{List, [], _∷_, _++_}
-use Prim.Native.Nat.{ℕ, zero, suc, _+_, _-_, _<_, _≤_}
+use Prim.Native.Nat.{ℕ, zero, suc, _-_, _≤_}
 use native.Mathlib.Omega.{arith}
-use native.Mathlib.Numerals.{add-one}
 use lib.Dec.{eqb}
-use lib.ListN.{length, getD, take, drop, drop-of-length-le, replicate, length-drop, length-append, length-replicate, take-append-drop}
-use lib.Seq.{length-take-le, take-at, drop-at, drop-cons}
+use lib.ListN.{length, take, drop, replicate, length-drop, length-append, length-replicate, take-append-drop}
+use lib.Seq.{length-take-le, take-at, drop-at}
 use borrow.Author.Tests.{eqb-true}
 use Rattle.net.specs.Tests.{all, table}
 use Rattle.net.proofs.Tests.{and-l, and-r}
@@ -54,10 +53,3 @@ all-zero (suc n) = all-zero n
 
 pub padded-zero : (l : List ℕ) (n k : ℕ) → length l ≡ k → zeroFrom k (padded n l) ≡ true
 padded-zero l n k e = ap (all (λ (x : ℕ). eqb x 0)) (drop-at l (replicate (n - length l) 0) k e) ∙ all-zero (n - length l)
-
--- one turn of the loop that looks for zeros, and its end
-pub zero-turn : (l : List ℕ) (i : ℕ) (b : Bool) → i < length l → (b && zeroFrom i l) ≡ ((b && eqb (getD l i 0) 0) && zeroFrom (i + 1) l)
-zero-turn l i b h = rw (add-one i, drop-cons l i 0 h) (sym (and-assoc b (eqb (getD l i 0) 0) (zeroFrom (suc i) l)))
-
-pub zero-end : (l : List ℕ) (i : ℕ) (b : Bool) → length l ≤ i → (b && zeroFrom i l) ≡ b
-zero-end l i b h = rw (drop-of-length-le l h) (and-true b)

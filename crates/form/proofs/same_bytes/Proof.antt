@@ -1,4 +1,4 @@
--- `marking::same_bytes` meets its contract.
+-- `form::same_bytes` meets its contract.
 -- Assumes nothing.
 use mathlib.Core.Path.{_≡_, refl, sym, _∙_}
 use Prim.Native.Nat.{_-_, _≤_}
@@ -6,10 +6,10 @@ use native.Mathlib.Omega.{arith}
 use borrow.Author.Needs.{needs}
 use Rattle.net.proofs.Tables.{all-more}
 use Rattle.net.specs.Tests.{all, table}
-use Rattle.marking.proofs.Same.{sameAt, same-take}
 use Rattle.marking.proofs.Sets.{self}
-use Rattle.marking.proofs.same_bytes.Tie as tie
-use Rattle.marking.proofs.same_bytes.Statement.{statement}
+use Rattle.form.proofs.Same.{sameAt, same-take}
+use Rattle.form.proofs.same_bytes.Tie as tie
+use Rattle.form.proofs.same_bytes.Statement.{statement}
 
 abbrev Inv-loop : tie.InvT-loop
 Inv-loop a b n same₀ i₀ same i = (i ≤ n) × (same ≡ all self (table i (sameAt a b)))

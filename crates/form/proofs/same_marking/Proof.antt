@@ -1,10 +1,10 @@
--- `marking::same_marking` meets its contract.
+-- `form::same_marking` meets its contract.
 -- Assumes nothing.
 use native.Mathlib.Omega.{arith}
 use borrow.Author.Needs.{needs}
-use Rattle.marking.proofs.Same.{counts-differ, parts-same}
-use Rattle.marking.proofs.same_marking.Tie as tie
-use Rattle.marking.proofs.same_marking.Statement.{statement}
+use Rattle.form.proofs.Same.{counts-differ, parts-same}
+use Rattle.form.proofs.same_marking.Tie as tie
+use Rattle.form.proofs.same_marking.Statement.{statement}
 
 returns : tie.Need-returns
 returns c = counts-differ (c .before .args .n) (c .before .args .t2) (c .before .args .t3) (c .if1 .taken)

@@ -1,8 +1,8 @@
--- `marking::in_form` meets its contract.
+-- `form::in_form` meets its contract.
 -- Assumes nothing.
 use borrow.Author.Needs.{needs}
-use Rattle.marking.proofs.in_form.Tie as tie
-use Rattle.marking.proofs.in_form.Statement.{statement}
+use Rattle.form.proofs.in_form.Tie as tie
+use Rattle.form.proofs.in_form.Statement.{statement}
 
 zero-from-requires : tie.Need-zero-from-requires
 zero-from-requires c κs = search needs

@@ -1,14 +1,14 @@
--- `marking::zero_from` meets its contract.
+-- `form::zero_from` meets its contract.
 -- Assumes nothing.
 use mathlib.Core.Path.{_≡_, refl, sym, _∙_}
 use mathlib.Core.Bool.{_&&_}
 use Prim.Native.Nat.{_-_}
 use lib.ListN.{length}
 use borrow.Author.Needs.{needs}
-use Rattle.marking.proofs.Padding.{zero-turn, zero-end}
 use Rattle.marking.specs.Form.{zeroFrom}
-use Rattle.marking.proofs.zero_from.Tie as tie
-use Rattle.marking.proofs.zero_from.Statement.{statement}
+use Rattle.form.proofs.Zeros.{zero-turn, zero-end}
+use Rattle.form.proofs.zero_from.Tie as tie
+use Rattle.form.proofs.zero_from.Statement.{statement}
 
 abbrev Inv-loop : tie.InvT-loop
 Inv-loop a k zero₀ i₀ zero i = zeroFrom k a ≡ (zero && zeroFrom i a)
