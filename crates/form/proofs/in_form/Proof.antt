@@ -14,7 +14,11 @@ zero-from-requires-3 : tie.Need-zero-from-requires-3
 zero-from-requires-3 c κs = search needs
 
 returns : tie.Need-returns
-returns c = rw (c .before .before .before .before .before .before .before .before .zero-from .ensures, c .before .before .before .before .zero-from2 .ensures, c .zero-from3 .ensures)
+returns c = rw (
+  c .before .before .before .before .before .before .before .before .zero-from .ensures,
+  c .before .before .before .before .zero-from2 .ensures,
+  c .zero-from3 .ensures,
+)
 
 pub in-form-spec : {M : Type 1} → statement M
 in-form-spec =

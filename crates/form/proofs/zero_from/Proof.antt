@@ -29,7 +29,8 @@ loop-less : tie.Need-loop-less Inv-loop μ-loop
 loop-less c = search needs
 
 loop-again : tie.Need-loop-again Inv-loop μ-loop
-loop-again c = c .before .before .loop .inv ∙ zero-turn (c .before .before .before .args .a .now) (c .before .before .loop .i) (c .before .before .loop .zero) (c .before .loop-test .taken)
+loop-again c = c .before .before .loop .inv ∙ zero-turn (c .before .before .before .args .a .now) (c .before .before .loop .i) (c .before .before .loop .zero)
+    (c .before .loop-test .taken)
 
 returns : tie.Need-returns Inv-loop μ-loop
 returns c = sym (c .before .loop .inv ∙ zero-end (c .before .before .args .a .now) (c .before .loop .i) (c .before .loop .zero) (c .loop-test .left))
