@@ -1,10 +1,9 @@
--- Firing and taking back keep a marking in its form and good: so a step is ready again after each, and bonds always fit.
+-- Firing and taking back keep a marking in its form and good: a transition is ready again after each, and bonds fit.
 -- Assumes nothing.
 use mathlib.Core.Path.{_≡_, refl, sym, _∙_, ap, subst, fun-ext}
 use mathlib.Core.Bool.{Bool, true, false}
 use mathlib.Core.List.{List, [], _∷_, _++_}
-use Prim.Native.Nat.{ℕ, zero, suc, _*_, _-_, _≤_}
-use native.Mathlib.Omega.{arith}
+use Prim.Native.Nat.{ℕ, zero, suc, _-_, _≤_}
 use lib.ListN.{length, getD, replicate}
 use Rattle.net.specs.Limits.{maxBases, maxBonds}
 use Rattle.net.specs.Tests.{pick, table}
@@ -18,8 +17,8 @@ use Rattle.net.proofs.Fire.{fire-good}
 use Rattle.net.specs.Net.{Arcs, Marking as NetMarking, Net, sameBond, lessBond, hasBond, place}
 use Rattle.marking.specs.Form.{flags, bondsOf, markingOf, laid, inForm}
 use Rattle.marking.proofs.Forms.{bonds-padded, marking-laid, laid-in-form}
+use Rattle.marking.proofs.Room.{good-room}
 use Rattle.enabling.specs.Ready.{Ready}
-use Rattle.enabling.proofs.Readiness.{bonds-fit}
 
 -- ---- a set of bases and the flags that hold it are the same set
 
@@ -46,15 +45,10 @@ undo-flags n t l s =
 -- ---- a good marking, laid
 
 module _ (net : Net) (few : net .bases ≤ maxBases) (s : NetMarking) (G : Good net s) where
-  pub good-room : length (s .bonds) ≤ maxBonds
-  good-room =
-      let a : 2 * length (s .bonds) ≤ maxBases * (maxBases - 1) = bonds-fit (net .bases) maxBases few (s .bonds) (G .order) (G .range) in
-      omega arith
-
   pub good-form : inForm (net .bases) (laid s) ≡ true
-  good-form = laid-in-form s (net .bases) (G .size) good-room
+  good-form = laid-in-form s (net .bases) (G .size) (good-room net few s G)
 
-  -- a step of an accepted sheet can be looked at
+  -- a transition of an accepted sheet can be looked at
   pub good-ready : (t : Arcs) → Fit net t → Ready (net .bases) t (laid s)
   good-ready t F =
       let e : s .bonds ≡ bondsOf (laid s) = sym (bonds-padded (s .bonds) maxBonds) in

@@ -3,3 +3,4 @@ pub mod Padding
 pub mod Shifts
 pub mod Forms
 pub mod Sets
+pub mod Room
