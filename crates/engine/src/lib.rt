@@ -77,7 +77,7 @@ fn with_places(m: Marking, places: [Place; MAX_BASES]) -> Marking
 }
 
 // Fires the transition: every base whose group an entry hits goes to the out-place of the first such entry; the
-// out-bonds are added. Callers have a marking in its form and good, and an accepted transition that none of 13 to 16 refuses.
+// out-bonds are added. Callers have a marking in its form and good, and an accepted sheet (proofs/Kept: ready-good).
 pub fn fire(step: &[u8], n: usize, m: Marking) -> Marking
     requires { ⌜ Ready n (arcsIn (now step)) m ⌝ }
     ensures { λ r. ⌜ r ≡ laid (fire n (arcsIn (now (step .entry))) (markingOf n m)) ⌝ }
@@ -93,7 +93,7 @@ pub fn fire(step: &[u8], n: usize, m: Marking) -> Marking
 }
 
 // Takes the transition back: the bonds that it made go; then each base of `moved` goes to the in-place of the entries
-// to which it is still connected. Callers have a marking in its form and good, and a live firing's moved bases.
+// to which it is still connected. Callers have a marking in its form and good, and an accepted sheet, as above.
 pub fn undo(step: &[u8], n: usize, m: Marking, moved: [bool; MAX_BASES]) -> Marking
     requires { ⌜ Ready n (arcsIn (now step)) m ⌝ }
     ensures { λ r. ⌜ r ≡ laid (undo n (arcsIn (now (step .entry))) moved (markingOf n m)) ⌝ }
