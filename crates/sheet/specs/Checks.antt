@@ -1,0 +1,48 @@
+-- The checks of a sheet in checking order (01, the turned-away list, 1 to 9), and the answer to a sheet.
+-- Definitions only. The conditions are those of sheet_start (1 to 6) and sheet_arcs (7 to 9).
+use Prim.Native.Nat.{ℕ, zero, suc, _+_}
+use mathlib.Core.List.{List, [], _∷_, _++_}
+use Rattle.net.specs.Tests.{pick}
+use Rattle.net.specs.Checks.{Check, check, clear, first}
+use Rattle.net.specs.Journal.{transition}
+use Rattle.format.specs.Parts.{placesOf, basesOf, transitionsOf, transitionBytes}
+use Rattle.sheet_start.specs.Conditions.{wrongSize, wrongVersion, wrongCounts, wrongPairs, wrongStartPlaces, wrongStartBonds}
+use Rattle.sheet_arcs.specs.Conditions.{wrongWidth, wrongEntries, wrongBonds}
+use Rattle.sheet.specs.declared.SheetAnswer.{SheetAnswer}
+use Rattle.sheet.specs.declared.SheetAnswer.the-variants.{Accepted, Refused}
+
+-- what is checked before any transition
+abbrev pub headChecks : List ℕ → List Check
+headChecks s =
+    check 1 (wrongSize s)
+    ∷ check 2 (wrongVersion s)
+    ∷ check 3 (wrongCounts s)
+    ∷ check 4 (wrongPairs s)
+    ∷ check 5 (wrongStartPlaces s)
+    ∷ check 6 (wrongStartBonds s)
+    ∷ []
+
+-- what is checked of transition k
+abbrev pub transitionChecks : List ℕ → ℕ → List Check
+transitionChecks s k =
+    check 7 (wrongWidth (transitionBytes s (transition k)))
+    ∷ check 8 (wrongEntries (placesOf s) (basesOf s) (transitionBytes s (transition k)))
+    ∷ check 9 (wrongBonds (transitionBytes s (transition k)))
+    ∷ []
+
+-- the same of n transitions from k on: all of one before the next
+abbrev pub checksFrom : List ℕ → ℕ → ℕ → List Check
+checksFrom s k zero = []
+checksFrom s k (suc n) = transitionChecks s k ++ checksFrom s (k + 1) n
+
+unfoldable pub sheetChecks : List ℕ → List Check
+sheetChecks s = headChecks s ++ checksFrom s 0 (transitionsOf s)
+
+-- The answer to a sheet: accepted where no check holds, else refused with the number of the first that does.
+unfoldable pub checked : List ℕ → SheetAnswer
+checked s = pick (clear (sheetChecks s)) Accepted (Refused (first (sheetChecks s)))
+
+-- The number that document 01 has for an answer; 0 for an accepted sheet.
+abbrev pub sheetNumber : SheetAnswer → ℕ
+sheetNumber Accepted = 0
+sheetNumber (Refused n) = n

@@ -1,0 +1,53 @@
+-- What holds of an accepted sheet, as later readers want it: limits, and every number within its count.
+-- Definitions only; proofs/Accepted has the theorem.
+use mathlib.Core.Path.{_≡_}
+use mathlib.Core.Bool.{true}
+use Prim.Native.Nat.{ℕ, _<_, _≤_}
+use mathlib.Core.List.{List}
+use lib.ListN.{length}
+use Rattle.causal.specs.Lists.{Mem}
+use Rattle.net.specs.Limits.{maxSheet, maxPlaces, maxBases, maxTransitions, maxEntries}
+use Rattle.net.specs.Sorted.{ascends}
+use Rattle.net.specs.Net.{Arcs, lessBond, place}
+use Rattle.net.specs.Rules.{netRule}
+use Rattle.net.specs.Journal.{transition}
+use Rattle.net.specs.declared.Bond.{Bond}
+use Rattle.net.specs.declared.Entry.{Entry}
+use Rattle.format.specs.Parts.{placesOf, basesOf, transitionsOf, transitionBytes}
+use Rattle.format.specs.Arcs.{arcsIn}
+use Rattle.format.specs.NetOf.{startOf, netOf}
+
+-- a count that is 1 to max
+abbrev pub Within : ℕ → ℕ → Type 0
+Within n max = (0 < n) × (n ≤ max)
+
+-- a bond of bases p < q that are there
+abbrev pub Fits : ℕ → Bond → Type 0
+Fits bases b = (b .lo < b .hi) × (b .hi < bases)
+
+-- the arcs of transition k
+abbrev pub arcsAt : List ℕ → ℕ → Arcs
+arcsAt s k = arcsIn (transitionBytes s (transition k))
+
+-- of a transition's arcs: at least one entry and at most as many as may be; every number within its count
+pub record GoodArcs (places bases : ℕ) (t : Arcs) : Type 0 where
+  pub count : Within (length (t .entries)) maxEntries
+  pub entry : (e : Entry) → Mem e (t .entries) → (e .base < bases) × (e .from < places) × (e .to < places)
+  pub inBond : (b : Bond) → Mem b (t .inBonds) → Fits bases b
+  pub outBond : (b : Bond) → Mem b (t .outBonds) → Fits bases b
+
+pub record Promised (s : List ℕ) : Type 0 where
+  -- the rules of the net that the sheet describes, all of them
+  pub rule : netRule (netOf s) ≡ true
+  -- the limits
+  pub size : length s ≤ maxSheet
+  pub places : Within (placesOf s) maxPlaces
+  pub bases : Within (basesOf s) maxBases
+  pub transitions : Within (transitionsOf s) maxTransitions
+  -- the start
+  pub startSize : length (startOf s .places) ≡ basesOf s
+  pub startPlace : (p : ℕ) → p < basesOf s → place (startOf s) p < placesOf s
+  pub startOrder : ascends lessBond (startOf s .bonds) ≡ true
+  pub startBond : (b : Bond) → Mem b (startOf s .bonds) → Fits (basesOf s) b
+  -- each transition
+  pub arcs : (k : ℕ) → k < transitionsOf s → GoodArcs (placesOf s) (basesOf s) (arcsAt s k)

@@ -1,0 +1,2 @@
+-- Names that the proofs of this crate's functions cite.
+pub mod Tests

@@ -1,0 +1,260 @@
+// The conditions under which a sheet is turned away for one of its transitions (document 01, 7 to 9), on that transition's
+// bytes: a function for each, true where the sheet is refused. Total: each reads any bytes. `out` is a side (specs/Sides).
+ghost use mathlib.Core.Path.{_≡_};
+ghost use mathlib.Core.Bool.{Bool, _&&_, true};
+ghost use Prim.Native.Nat.{_+_, _*_, _<_, _≤_};
+ghost use lib.Dec.{eqb, ltb};
+ghost use Rattle.net.specs.Tests.{all, any};
+ghost use Rattle.net.specs.Sorted.{ascends};
+ghost use Rattle.net.specs.Net.{lessBond, sameBond, hasBond};
+ghost use Rattle.net.specs.Rules.{entryRule, joins, bondsRule, keptRule};
+ghost use Rattle.net.specs.declared.Entry.{Entry};
+ghost use Rattle.format.specs.Arcs.{arcsIn};
+ghost use Rattle.sheet_arcs.specs.Sides.{sideOf, bondCount, nthBond, bondsOf};
+ghost use Rattle.sheet_arcs.specs.Conditions.{wrongWidth, wrongEntries, wrongBonds};
+use format::arcs_width;
+use format::bond_before;
+use format::entry;
+use format::entry_count;
+use format::in_bond;
+use format::in_count;
+use format::out_bond;
+use format::out_count;
+use format::outside;
+use net::Base;
+use net::Bond;
+use net::Entry;
+use net::MAX_ENTRIES;
+use net::Place;
+
+// 7
+pub fn wrong_width(b: &[u8]) -> bool
+    ensures { λ r. ⌜ r ≡ wrongWidth (now (b .entry)) ⌝ }
+{
+    let width = arcs_width(b);
+    let entries = entry_count(b);
+    if b.len() != width {
+        return true;
+    }
+    outside(entries as usize, MAX_ENTRIES)
+}
+
+// An entry's base and places are there.
+fn entry_there(e: Entry, places: Place, bases: Base) -> bool
+    ensures { λ r. ⌜ r ≡ entryRule places bases e ⌝ }
+{
+    if bases <= e.base {
+        return false;
+    }
+    e.from < places && e.to < places
+}
+
+fn entries_there(b: &[u8], places: Place, bases: Base) -> bool
+    ensures { λ r. ⌜ r ≡ all (entryRule places bases) (arcsIn (now (b .entry)) .entries) ⌝ }
+{
+    let n = entry_count(b);
+    let mut i: u8 = 0;
+    while i < n {
+        let e = entry(b, i);
+        if !entry_there(e, places, bases) {
+            return false;
+        }
+        i += 1;
+    }
+    true
+}
+
+fn base_before(e: Entry, d: Entry) -> bool
+    ensures { λ r. ⌜ r ≡ ltb (e .base) (d .base) ⌝ }
+{
+    e.base < d.base
+}
+
+fn entries_ascend(b: &[u8]) -> bool
+    ensures { λ r. ⌜ r ≡ ascends (λ e d. ltb (e .base) (d .base)) (arcsIn (now (b .entry)) .entries) ⌝ }
+{
+    let n = entry_count(b);
+    let mut i: u8 = 0;
+    while i as usize + 1 < n as usize {
+        let e = entry(b, i);
+        let d = entry(b, i + 1);
+        if !base_before(e, d) {
+            return false;
+        }
+        i += 1;
+    }
+    true
+}
+
+// 8
+pub fn wrong_entries(b: &[u8], places: Place, bases: Base) -> bool
+    ensures { λ r. ⌜ r ≡ wrongEntries places bases (now (b .entry)) ⌝ }
+{
+    if !entries_there(b, places, bases) {
+        return true;
+    }
+    !entries_ascend(b)
+}
+
+fn side(e: Entry, out: bool) -> Place
+    ensures { λ r. ⌜ r ≡ sideOf out e ⌝ }
+{
+    if out { e.to } else { e.from }
+}
+
+fn bond_count(b: &[u8], out: bool) -> u8
+    ensures { λ r. ⌜ r ≡ bondCount (now (b .entry)) out ⌝ }
+{
+    if out { out_count(b) } else { in_count(b) }
+}
+
+fn nth_bond(b: &[u8], out: bool, i: u8) -> Bond
+    ensures { λ r. ⌜ r ≡ nthBond (now (b .entry)) out i ⌝ }
+{
+    if out { out_bond(b, i) } else { in_bond(b, i) }
+}
+
+fn bonds_ascend(b: &[u8], out: bool) -> bool
+    ensures { λ r. ⌜ r ≡ ascends lessBond (bondsOf (now (b .entry)) out) ⌝ }
+{
+    let n = bond_count(b, out);
+    let mut i: u8 = 0;
+    while i as usize + 1 < n as usize {
+        let x = nth_bond(b, out, i);
+        let y = nth_bond(b, out, i + 1);
+        if !bond_before(x, y) {
+            return false;
+        }
+        i += 1;
+    }
+    true
+}
+
+// Whether d is the entry of `hi` and agrees with the place `at`.
+fn is_partner(d: Entry, out: bool, hi: Base, at: Place) -> bool
+    ensures { λ r. ⌜ r ≡ (eqb (d .base) hi && eqb at (sideOf out d)) ⌝ }
+{
+    if d.base != hi {
+        return false;
+    }
+    let p = side(d, out);
+    at == p
+}
+
+fn has_partner(b: &[u8], out: bool, hi: Base, at: Place) -> bool
+    ensures { λ r. ⌜ r ≡ any (λ d. eqb (d .base) hi && eqb at (sideOf out d)) (arcsIn (now (b .entry)) .entries) ⌝ }
+{
+    let n = entry_count(b);
+    let mut i: u8 = 0;
+    while i < n {
+        let d = entry(b, i);
+        if is_partner(d, out, hi, at) {
+            return true;
+        }
+        i += 1;
+    }
+    false
+}
+
+// Whether e is the entry of the lower base of x, and one of the higher base agrees with it.
+fn starts(b: &[u8], out: bool, x: Bond, e: Entry) -> bool
+    ensures { λ r. ⌜ r ≡ (eqb (e .base) (x .lo) && any (λ d. eqb (d .base) (x .hi) && eqb (sideOf out e) (sideOf out d)) (arcsIn (now (b .entry)) .entries)) ⌝ }
+{
+    if e.base != x.lo {
+        return false;
+    }
+    let at = side(e, out);
+    has_partner(b, out, x.hi, at)
+}
+
+fn bond_joins(b: &[u8], out: bool, x: Bond) -> bool
+    ensures { λ r. ⌜ r ≡ joins (sideOf out) (arcsIn (now (b .entry)) .entries) x ⌝ }
+{
+    if x.hi <= x.lo {
+        return false;
+    }
+    let n = entry_count(b);
+    let mut i: u8 = 0;
+    while i < n {
+        let e = entry(b, i);
+        if starts(b, out, x, e) {
+            return true;
+        }
+        i += 1;
+    }
+    false
+}
+
+fn bonds_join(b: &[u8], out: bool) -> bool
+    ensures { λ r. ⌜ r ≡ all (joins (sideOf out) (arcsIn (now (b .entry)) .entries)) (bondsOf (now (b .entry)) out) ⌝ }
+{
+    let n = bond_count(b, out);
+    let mut i: u8 = 0;
+    while i < n {
+        let x = nth_bond(b, out, i);
+        if !bond_joins(b, out, x) {
+            return false;
+        }
+        i += 1;
+    }
+    true
+}
+
+fn bonds_good(b: &[u8], out: bool) -> bool
+    ensures { λ r. ⌜ r ≡ bondsRule (sideOf out) (arcsIn (now (b .entry)) .entries) (bondsOf (now (b .entry)) out) ⌝ }
+{
+    if !bonds_ascend(b, out) {
+        return false;
+    }
+    bonds_join(b, out)
+}
+
+fn bonds_same(x: Bond, y: Bond) -> bool
+    ensures { λ r. ⌜ r ≡ sameBond x y ⌝ }
+{
+    x.lo == y.lo && x.hi == y.hi
+}
+
+fn has_out_bond(b: &[u8], x: Bond) -> bool
+    ensures { λ r. ⌜ r ≡ hasBond x (arcsIn (now (b .entry)) .outBonds) ⌝ }
+{
+    let n = out_count(b);
+    let mut i: u8 = 0;
+    while i < n {
+        let y = out_bond(b, i);
+        if bonds_same(x, y) {
+            return true;
+        }
+        i += 1;
+    }
+    false
+}
+
+// Every in-coupling is an out-coupling too.
+fn bonds_kept(b: &[u8]) -> bool
+    ensures { λ r. ⌜ r ≡ keptRule (arcsIn (now (b .entry))) ⌝ }
+{
+    let n = in_count(b);
+    let mut i: u8 = 0;
+    while i < n {
+        let x = in_bond(b, i);
+        if !has_out_bond(b, x) {
+            return false;
+        }
+        i += 1;
+    }
+    true
+}
+
+// 9
+pub fn wrong_bonds(b: &[u8]) -> bool
+    ensures { λ r. ⌜ r ≡ wrongBonds (now (b .entry)) ⌝ }
+{
+    if !bonds_good(b, false) {
+        return true;
+    }
+    if !bonds_good(b, true) {
+        return true;
+    }
+    !bonds_kept(b)
+}

@@ -1,0 +1,2 @@
+-- The counts of a tally.
+pub mod Counts

@@ -1,0 +1,30 @@
+-- Laws of decimal digits: one digit, one digit more, and how many there are at most.
+-- Assumes nothing.
+use mathlib.Core.Path.{_≡_, refl, sym, ap, _∙_}
+use Prim.Native.Nat.{ℕ, zero, suc, _+_, _-_, _/_, _%_, _≤_, _<_}
+use native.Mathlib.Omega.{arith}
+use mathlib.Core.Bool.{Bool, true, false}
+use mathlib.Core.List.{[], _∷_, _++_}
+use lib.Dec.{ltb}
+use lib.ListN.{length, length-append}
+use borrow.Author.Tests.{lt-ltb, le-ltb}
+use Rattle.text.specs.Decimal.{digits}
+
+pub digits-one : (p n : ℕ) → (p ≡ 0 → ⊥) → n < 10 → digits p n ≡ (48 + n) ∷ []
+digits-one zero n h l = absurd (h refl)
+digits-one (suc k) n h l = rw (lt-ltb n 10 l)
+
+pub digits-more : (p n : ℕ) → (p ≡ 0 → ⊥) → 10 ≤ n → digits p n ≡ digits (p - 1) (n / 10) ++ ((48 + n % 10) ∷ [])
+digits-more zero n h l = absurd (h refl)
+digits-more (suc k) n h l =
+    let e : suc k - 1 ≡ k = omega arith in
+    rw (le-ltb n 10 l, e)
+
+module _ (k n : ℕ) (ih : length (digits k (n / 10)) ≤ k) where
+  length-by : (b : Bool) → ltb n 10 ≡ b → length (digits (suc k) n) ≤ suc k
+  length-by true e = rw e (omega arith)
+  length-by false e = rw e (omega (arith, length-append (digits k (n / 10)) ((48 + n % 10) ∷ [])))
+
+pub digits-length : (p n : ℕ) → length (digits p n) ≤ p
+digits-length zero n = omega arith
+digits-length (suc k) n = length-by k n (digits-length k (n / 10)) (ltb n 10) refl

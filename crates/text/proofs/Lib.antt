@@ -1,0 +1,3 @@
+-- Laws of text in a buffer.
+pub mod Writes
+pub mod Digits

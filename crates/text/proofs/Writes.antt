@@ -1,0 +1,56 @@
+-- Laws of stores into a buffer: one run of stores after another, a copy, and a text written piece by piece.
+-- Assumes nothing.
+use mathlib.Core.Path.{_≡_, refl, sym, ap, _∙_}
+use Prim.Native.Nat.{ℕ, suc, _+_, _≤_, _<_}
+use native.Mathlib.Numerals.{add-one}
+use native.Mathlib.Nat.{add-zero, add-suc, suc-add, zero-add, le-of-lt}
+use mathlib.Core.List.{List, [], _∷_, _++_}
+use lib.ListN.{length, getD, set, take, drop, length-append}
+use lib.Seq.{sets, sets-eq, take-suc, length-take-le}
+
+shift : (i n : ℕ) → i + suc n ≡ suc i + n
+shift i n = add-suc i n ∙ sym (suc-add i n)
+
+module _ {A : Type 0} where
+  pub sets-sets : (vs ws l : List A) (i : ℕ) → sets (sets l i vs) (i + length vs) ws ≡ sets l i (vs ++ ws)
+  sets-sets [] ws l i = ap (λ (k : ℕ). sets l k ws) (add-zero i)
+  sets-sets (a ∷ vs) ws l i = ap (λ (k : ℕ). sets (sets (set l i a) (suc i) vs) k ws) (shift i (length vs)) ∙ sets-sets vs ws (set l i a) (suc i)
+
+  -- one store more
+  pub sets-snoc : (vs l : List A) (i : ℕ) (x : A) → set (sets l i vs) (i + length vs) x ≡ sets l i (vs ++ (x ∷ []))
+  sets-snoc vs l i x = sets-sets vs (x ∷ []) l i
+
+  -- a run from the start is a prefix
+  pub sets-front : (vs l : List A) → length vs ≤ length l → sets l 0 vs ≡ vs ++ drop (length vs) l
+  sets-front vs l h =
+      let e : 0 + length vs ≡ length vs = zero-add (length vs) in
+      sets-eq vs l 0 (rw e h) ∙ rw e
+
+-- a copy takes one element more
+pub copied-more : (b₀ word : List ℕ) (at i : ℕ) → i < length word → set (sets b₀ at (take i word)) (at + i) (getD word i 0) ≡ sets b₀ at (take (i + 1) word)
+copied-more b₀ word at i h =
+    let e : length (take i word) ≡ i = length-take-le i word (le-of-lt h) in
+    let s : set (sets b₀ at (take i word)) (at + length (take i word)) (getD word i 0) ≡ _ = sets-snoc (take i word) b₀ at (getD word i 0) in
+    let q : at + length (take i word) ≡ at + i = ap (λ (k : ℕ). at + k) e in
+    ap (λ (k : ℕ). set (sets b₀ at (take i word)) k (getD word i 0)) (sym q) ∙ s ∙ sym (rw (add-one i, take-suc word i 0))
+
+-- a buffer l of which the first k bytes are now the text vs
+pub record Written (l vs : List ℕ) (k : ℕ) (now : List ℕ) : Type 0 where
+  pub count : k ≡ length vs
+  pub list : now ≡ sets l 0 vs
+
+pub written-none : (l : List ℕ) → Written l [] 0 l
+written-none l = record { count = refl; list = refl }
+
+-- one writer more
+pub written-more : {l vs now : List ℕ} {k : ℕ} (ws : List ℕ) {k′ : ℕ} {now′ : List ℕ} → Written l vs k now → (k′ ≡ k + length ws) × (now′ ≡ sets now k ws) → Written l (vs ++ ws) k′ now′
+written-more {l} {vs} ws w e = record {
+  count = e .0 ∙ ap (λ (n : ℕ). n + length ws) (w .count) ∙ sym (length-append vs ws);
+  list =
+      let z : 0 + length vs ≡ length vs = zero-add (length vs) in
+      e .1 ∙ rw (w .list, w .count, ← z) (sets-sets vs ws l 0);
+}
+
+-- all of the buffer
+pub written-all : {l vs now : List ℕ} {k : ℕ} → length vs ≤ length l → Written l vs k now → now ≡ vs ++ drop (length vs) l
+written-all {l} {vs} h w = w .list ∙ sets-front vs l h

@@ -1,0 +1,38 @@
+// Text into a lent buffer: decimal numbers and words, from a given position on. Every contract says all of the buffer:
+// `sets l at bytes` is l with bytes stored from at on.
+ghost use mathlib.Core.Path.{_≡_};
+ghost use Prim.Native.Nat.{_+_, _≤_};
+ghost use lib.ListN.{length};
+ghost use lib.Seq.{sets};
+ghost use Rattle.text.specs.Decimal.{digits, decimal};
+
+// The last `places` digits of n, with no zero in front. Answers where the text ends.
+// The callers have checked that the buffer is long enough, as for the two functions below.
+pub fn put_digits(buf: &mut [u8], at: usize, n: u32, places: usize) -> usize
+    requires { ⌜ at + places ≤ length (now buf) ⌝ }
+    ensures { λ r. ⌜ (r ≡ at + length (digits places n)) × (now (buf .exit) ≡ sets (now (buf .entry)) at (digits places n)) ⌝ }
+{
+    if places == 0 {
+        return at;
+    }
+    if n < 10 {
+        buf[at] = (48 + n) as u8;
+        return at + 1;
+    }
+    let e = put_digits(buf, at, n / 10, places - 1);
+    buf[e] = (48 + n % 10) as u8;
+    e + 1
+}
+
+// The bytes of a word. Answers where the text ends.
+pub fn put_word(buf: &mut [u8], at: usize, word: &[u8]) -> usize
+    requires { ⌜ at + length (now word) ≤ length (now buf) ⌝ }
+    ensures { λ r. ⌜ (r ≡ at + length (now (word .entry))) × (now (buf .exit) ≡ sets (now (buf .entry)) at (now (word .entry))) ⌝ }
+{
+    let mut i = 0;
+    while i < word.len() {
+        buf[at + i] = word[i];
+        i += 1;
+    }
+    at + i
+}
