@@ -1,4 +1,4 @@
--- Where a step and a marking are ready: labels and groups, as the code makes them, say what the definitions say.
+-- Where a transition and a marking are ready: labels and groups, as the code makes them, say what the definitions say.
 -- Assumes nothing.
 use mathlib.Core.Path.{_≡_, sym, _∙_, ap}
 use mathlib.Core.Bool.{Bool, false, not}
@@ -64,7 +64,7 @@ module _ (n : ℕ) (t : Arcs) (m : Marking) (R : Ready n t m) (l : List ℕ) (el
   torn-here g eg = ap (λ (k : Groups). any (λ (e : Entry). not (eqb (e .to) (getD (k .place) (labelIn l (e .base)) 0))) (t .entries)) eg
       ∙ torn-connected maxBases (bondsOf m) (t .entries) l el (entry-low n t m R) (label-low n t m R)
 
--- the entries as they lie in the step's bytes
+-- the entries as they lie in the transition's bytes
 pub entries-low : (n : ℕ) (b : List ℕ) (m : Marking) → Ready n (arcsIn b) m → (l : List ℕ) → l ≡ table maxBases (label (bondsOf m))
     → (i : ℕ) → i < entryCount b → (nthEntry b i .base < maxBases) × (labelIn l (nthEntry b i .base) < maxBases)
 entries-low n b m R l el i h =

@@ -1,2 +1,2 @@
--- What the callers know of a step and a marking.
+-- What the callers know of a transition and a marking.
 pub mod Ready

@@ -1,4 +1,4 @@
--- What is known where a step is looked at: the marking is in its form and good, and the sheet was accepted.
+-- What is known where a transition is looked at: the marking is in its form and good, and the sheet was accepted.
 -- Definitions only.
 use mathlib.Core.Path.{_≡_}
 use mathlib.Core.Bool.{true}
@@ -12,8 +12,8 @@ use Rattle.net.specs.declared.Entry.{Entry}
 use Rattle.marking.specs.declared.Marking.{Marking}
 use Rattle.marking.specs.Form.{bondsOf, markingOf, laid}
 
--- n bases; m is in its form; its bonds are in strict order and of bases of the net; so are the step's entries and the
--- bonds that it adds.
+-- n bases; m is in its form; its bonds are in strict order and of bases of the net; the transition's entries and the
+-- bonds that it adds are of such bases too.
 pub record Ready (n : ℕ) (t : Arcs) (m : Marking) : Type 0 where
   pub few : n ≤ maxBases
   pub form : m ≡ laid (markingOf n m)

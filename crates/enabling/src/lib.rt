@@ -1,5 +1,5 @@
-// Whether a marking enables a step (document 01, refusals 13 to 16), and which bases the step moves.
-// The step is read from its bytes in the caller's sheet. Every entry and bond is looked at: no early exit.
+// Whether a marking enables a transition (document 01, refusals 13 to 16), and which bases the transition moves.
+// The transition is read from its bytes in the caller's sheet. Every entry and bond is looked at: no early exit.
 ghost use mathlib.Core.Path.{_≡_};
 ghost use mathlib.Core.Bool.{Bool};
 ghost use Prim.Native.Nat.{ℕ, _<_, _≤_};
@@ -25,7 +25,7 @@ use net::Bond;
 use net::MAX_BASES;
 
 // 13: an entry's base is not at its in-place.
-// Callers have a marking in its form and an accepted step, here and below.
+// Callers have a marking in its form and an accepted transition, here and below.
 pub fn misplaced(step: &[u8], n: usize, m: Marking) -> bool
     requires { ⌜ Ready n (arcsIn (now step)) m ⌝ }
     ensures { λ r. ⌜ r ≡ misplaced (arcsIn (now (step .entry))) (markingOf n m) ⌝ }
@@ -59,7 +59,7 @@ pub fn bond_absent(step: &[u8], m: Marking) -> bool
     found
 }
 
-// Whether b is an in-bond of the step.
+// Whether b is an in-bond of the transition.
 pub fn is_in_bond(step: &[u8], b: Bond) -> bool
     ensures { λ r. ⌜ r ≡ hasBond b (arcsIn (now (step .entry)) .inBonds) ⌝ }
 {
@@ -104,7 +104,7 @@ pub fn torn_apart(step: &[u8], n: usize, m: Marking) -> bool
     torn(step, l, g)
 }
 
-// The bases that firing the step moves.
+// The bases that firing the transition moves.
 pub fn moved_bases(step: &[u8], n: usize, m: Marking) -> [bool; MAX_BASES]
     requires { ⌜ Ready n (arcsIn (now step)) m ⌝ }
     ensures { λ r. ⌜ r ≡ flags (moved n (arcsIn (now (step .entry))) (markingOf n m)) ⌝ }

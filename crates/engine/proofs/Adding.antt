@@ -1,4 +1,4 @@
--- A step's out-bonds go in one after the other, from the last to the first; there is always room.
+-- A transition's out-bonds go in one after the other, from the last to the first; there is always room.
 -- Assumes nothing.
 use mathlib.Core.Path.{_≡_, sym, _∙_, ap, subst}
 use mathlib.Core.Logic.{_⊎_, inl, inr}
@@ -19,8 +19,8 @@ use Rattle.net.proofs.Bonds.{bond-order}
 use Rattle.marking.specs.declared.Marking.{Marking}
 use Rattle.marking.specs.Form.{bondsOf, withBonds, InOrder}
 use Rattle.marking.proofs.Forms.{bonds-with, in-order-with}
+use Rattle.marking.proofs.Room.{bonds-fit}
 use Rattle.groups.proofs.Firsts.{drop-back}
-use Rattle.enabling.proofs.Readiness.{bonds-fit}
 use Rattle.engine.specs.Change.{Low}
 
 has-drop : (b : Bond) (L : ℕ) (l : List Bond) → hasBond b (drop L l) ≡ true → hasBond b l ≡ true

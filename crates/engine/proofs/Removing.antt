@@ -1,4 +1,4 @@
--- Taking out a step's new bonds one after the other keeps what is not new.
+-- Taking out a transition's new bonds one after the other keeps what is not new.
 -- Assumes nothing.
 use mathlib.Core.Path.{_≡_, refl, sym, _∙_, ap, subst, fun-ext}
 use mathlib.Core.Bool.{Bool, true, false, not, _&&_, _||_}

@@ -1,2 +1,2 @@
--- What adding a step's bonds needs, and a marking with other places.
+-- What adding a transition's bonds needs, and a marking with other places.
 pub mod Change

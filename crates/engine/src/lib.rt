@@ -1,5 +1,5 @@
-// Firing a step and taking it back (document 01), on a marking by value, in its form before and after.
-// The step is read from its bytes in the caller's sheet.
+// Firing a transition and taking it back (document 01), on a marking by value, in its form before and after.
+// The transition is read from its bytes in the caller's sheet.
 ghost use mathlib.Core.Path.{_≡_};
 ghost use mathlib.Core.Bool.{Bool, not};
 ghost use Prim.Native.Nat.{ℕ, _<_, _≤_};
@@ -24,8 +24,8 @@ use net::Bond;
 use net::MAX_BASES;
 use net::Place;
 
-// The marking with the step's out-bonds, from the last to the first.
-// The bonds of a good marking and of an accepted step are of bases of the net, so that there is room for all of them.
+// The marking with the transition's out-bonds, from the last to the first.
+// The bonds of a good marking and of an accepted transition are of bases of the net: so there is room for all.
 fn add_out_bonds(step: &[u8], m: Marking) -> Marking
     requires { ⌜ Fits (arcsIn (now step)) m ⌝ }
     ensures { λ r. ⌜ r ≡ withBonds m (puts sameBond lessBond (arcsIn (now (step .entry)) .outBonds) (bondsOf m)) ⌝ }
@@ -40,7 +40,7 @@ fn add_out_bonds(step: &[u8], m: Marking) -> Marking
     held
 }
 
-// b goes out, unless it is an in-bond of the step.
+// b goes out, unless it is an in-bond of the transition.
 fn take_out(step: &[u8], m: Marking, b: Bond) -> Marking
     requires { ⌜ InOrder m ⌝ }
     ensures { λ r. ⌜ r ≡ withBonds m (keep (stays (arcsIn (now (step .entry))) b) (bondsOf m)) ⌝ }
@@ -52,7 +52,7 @@ fn take_out(step: &[u8], m: Marking, b: Bond) -> Marking
     remove_bond(m, b)
 }
 
-// The marking without the bonds that the step made: its out-bonds that are no in-bonds.
+// The marking without the bonds that the transition made: its out-bonds that are no in-bonds.
 fn remove_new_bonds(step: &[u8], m: Marking) -> Marking
     requires { ⌜ InOrder m ⌝ }
     ensures { λ r. ⌜ r ≡ withBonds m (keep (λ c. not (newBond (arcsIn (now (step .entry))) c)) (bondsOf m)) ⌝ }
@@ -76,8 +76,8 @@ fn with_places(m: Marking, places: [Place; MAX_BASES]) -> Marking
     r
 }
 
-// Fires the step: every base whose group an entry hits goes to the out-place of the first such entry; the out-bonds are
-// added. Callers have a marking in its form and good, and an accepted step that none of 13 to 16 refuses.
+// Fires the transition: every base whose group an entry hits goes to the out-place of the first such entry; the
+// out-bonds are added. Callers have a marking in its form and good, and an accepted sheet (proofs/Kept: ready-good).
 pub fn fire(step: &[u8], n: usize, m: Marking) -> Marking
     requires { ⌜ Ready n (arcsIn (now step)) m ⌝ }
     ensures { λ r. ⌜ r ≡ laid (fire n (arcsIn (now (step .entry))) (markingOf n m)) ⌝ }
@@ -92,8 +92,8 @@ pub fn fire(step: &[u8], n: usize, m: Marking) -> Marking
     with_places(bonded, places)
 }
 
-// Takes the step back: the bonds that it made go; then each base of `moved` goes to the in-place of the entries to which
-// it is still connected. Callers have a marking in its form and good, and the moved bases of a live firing of the step.
+// Takes the transition back: the bonds that it made go; then each base of `moved` goes to the in-place of the entries
+// to which it is still connected. Callers have a marking in its form and good, and an accepted sheet, as above.
 pub fn undo(step: &[u8], n: usize, m: Marking, moved: [bool; MAX_BASES]) -> Marking
     requires { ⌜ Ready n (arcsIn (now step)) m ⌝ }
     ensures { λ r. ⌜ r ≡ laid (undo n (arcsIn (now (step .entry))) moved (markingOf n m)) ⌝ }

@@ -3,4 +3,4 @@ pub mod Padding
 pub mod Shifts
 pub mod Forms
 pub mod Sets
-pub mod Same
+pub mod Room

@@ -1,19 +1,19 @@
 -- Laws of lists with zeros after them: a loop that fills a list of zeros, and a list that is zero from k on.
 -- Assumes nothing.
 use mathlib.Core.Path.{_≡_, refl, sym, _∙_, ap}
-use mathlib.Core.Bool.{Bool, true, _&&_, and-assoc, and-true}
+use mathlib.Core.Bool.{Bool, true, false, not}
 use mathlib.Core.List.{List, [], _∷_, _++_}
-use Prim.Native.Nat.{ℕ, zero, suc, _+_, _-_, _<_, _≤_}
+use Prim.Native.Nat.{ℕ, zero, suc, _-_, _≤_}
 use native.Mathlib.Omega.{arith}
-use native.Mathlib.Numerals.{add-one}
 use lib.Dec.{eqb}
-use lib.ListN.{length, getD, take, drop, drop-of-length-le, replicate, length-drop, length-append, length-replicate, take-append-drop}
-use lib.Seq.{length-take-le, take-at, drop-at, drop-cons}
-use borrow.Author.Tests.{eqb-true}
+use lib.ListN.{length, take, drop, replicate, length-drop, length-append, length-replicate, take-append-drop}
+use lib.Seq.{length-take-le, take-at, drop-at}
+use borrow.Author.Tests.{eqb-true, not-true}
+use Rattle.net.specs.Limits.{maxBases}
 use Rattle.net.specs.Tests.{all, table}
 use Rattle.net.proofs.Tests.{and-l, and-r}
 use Rattle.net.proofs.Tables.{length-table}
-use Rattle.marking.specs.Form.{padWith, padded, zeroFrom}
+use Rattle.marking.specs.Form.{padWith, padded, flags, zeroFrom, clearFrom}
 
 module _ {X : Type 0} where
   pub drop-replicate : (i n : ℕ) (x : X) → drop i (replicate n x) ≡ replicate (n - i) x
@@ -28,19 +28,28 @@ module _ {X : Type 0} where
       ∙ ap (λ (r : List X). table i f ++ r) (drop-replicate i n d ∙ ap (λ (r : ℕ). replicate (n - r) d) (sym (length-table i f)))
       ∙ ap (λ (r : ℕ). padWith d n (table r f)) e
 
-zeros : (l : List ℕ) → all (λ (x : ℕ). eqb x 0) l ≡ true → l ≡ replicate (length l) 0
-zeros [] h = refl
-zeros (x ∷ l) h =
-    let e : x ≡ 0 = eqb-true x 0 (and-l (eqb x 0) (all (λ (y : ℕ). eqb y 0) l) h) in
-    let q : l ≡ replicate (length l) 0 = zeros l (and-r (eqb x 0) (all (λ (y : ℕ). eqb y 0) l) h) in
-    λ i. e i ∷ q i
+-- where only d passes the test, a list whose elements from k on pass is its first k, padded
+module _ {X : Type 0} (t : X → Bool) (d : X) (only : (x : X) → t x ≡ true → x ≡ d) where
+  rest-same : (l : List X) → all t l ≡ true → l ≡ replicate (length l) d
+  rest-same [] h = refl
+  rest-same (x ∷ l) h =
+      let e : x ≡ d = only x (and-l (t x) (all t l) h) in
+      let q : l ≡ replicate (length l) d = rest-same l (and-r (t x) (all t l) h) in
+      λ i. e i ∷ q i
 
--- a list of n that is zero from k on is its first k, padded
+  pub rest-padded : (l : List X) (k n : ℕ) → length l ≡ n → k ≤ n → all t (drop k l) ≡ true → l ≡ padWith d n (take k l)
+  rest-padded l k n s h z =
+      let a : length (take k l) ≡ k = length-take-le k l (omega arith) in
+      let b : length (drop k l) ≡ n - length (take k l) = length-drop k l ∙ (omega arith) in
+      sym (take-append-drop k l) ∙ ap (λ (r : List X). take k l ++ r) (rest-same (drop k l) z ∙ ap (λ (r : ℕ). replicate r d) b)
+
+-- a list of n that is zero from k on
 pub zero-padded : (l : List ℕ) (k n : ℕ) → length l ≡ n → k ≤ n → zeroFrom k l ≡ true → l ≡ padded n (take k l)
-zero-padded l k n s h z =
-    let a : length (take k l) ≡ k = length-take-le k l (omega arith) in
-    let b : length (drop k l) ≡ n - length (take k l) = length-drop k l ∙ (omega arith) in
-    sym (take-append-drop k l) ∙ ap (λ (r : List ℕ). take k l ++ r) (zeros (drop k l) z ∙ ap (λ (r : ℕ). replicate r 0) b)
+zero-padded = rest-padded (λ (x : ℕ). eqb x 0) 0 (λ x e. eqb-true x 0 e)
+
+-- a set that has no base from k on
+pub clear-flags : (l : List Bool) (k : ℕ) → length l ≡ maxBases → k ≤ maxBases → clearFrom k l ≡ true → l ≡ flags (take k l)
+clear-flags l k s h z = rest-padded not false (λ x e. not-true x e) l k maxBases s h z
 
 pub length-padded : (l : List ℕ) (n : ℕ) → length l ≤ n → length (padded n l) ≡ n
 length-padded l n h = length-append l (replicate (n - length l) 0) ∙ rw (length-replicate {A = ℕ} (n - length l) 0) (omega arith)
@@ -54,10 +63,3 @@ all-zero (suc n) = all-zero n
 
 pub padded-zero : (l : List ℕ) (n k : ℕ) → length l ≡ k → zeroFrom k (padded n l) ≡ true
 padded-zero l n k e = ap (all (λ (x : ℕ). eqb x 0)) (drop-at l (replicate (n - length l) 0) k e) ∙ all-zero (n - length l)
-
--- one turn of the loop that looks for zeros, and its end
-pub zero-turn : (l : List ℕ) (i : ℕ) (b : Bool) → i < length l → (b && zeroFrom i l) ≡ ((b && eqb (getD l i 0) 0) && zeroFrom (i + 1) l)
-zero-turn l i b h = rw (add-one i, drop-cons l i 0 h) (sym (and-assoc b (eqb (getD l i 0) 0) (zeroFrom (suc i) l)))
-
-pub zero-end : (l : List ℕ) (i : ℕ) (b : Bool) → length l ≤ i → (b && zeroFrom i l) ≡ b
-zero-end l i b h = rw (drop-of-length-le l h) (and-true b)

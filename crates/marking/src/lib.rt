@@ -3,16 +3,14 @@
 ghost use mathlib.Core.Path.{_≡_};
 ghost use mathlib.Core.Bool.{Bool, not};
 ghost use Prim.Native.Nat.{ℕ, _+_, _-_, _<_, _≤_};
-ghost use lib.Dec.{eqb};
-ghost use lib.ListN.{length, getD, take};
-ghost use Rattle.net.specs.Limits.{maxBases, maxBonds};
-ghost use Rattle.net.specs.Tests.{keep, table, sameList};
+ghost use lib.ListN.{length, getD};
+ghost use Rattle.net.specs.Limits.{maxBonds};
+ghost use Rattle.net.specs.Tests.{keep, table};
 ghost use Rattle.net.specs.Sorted.{Ascending, put};
 ghost use Rattle.net.specs.Net.{sameBond, lessBond, hasBond};
 ghost use Rattle.net.specs.Journal.{common};
-ghost use Rattle.net.specs.History.{sameMarking};
 ghost use Rattle.marking.specs.Shift.{slot, gap};
-ghost use Rattle.marking.specs.Form.{padded, bondsOf, markingOf, withBonds, InOrder, zeroFrom, inForm};
+ghost use Rattle.marking.specs.Form.{padded, bondsOf, withBonds, InOrder};
 use bonds::has_bond;
 use bonds::rank;
 use net::Base;
@@ -133,58 +131,4 @@ pub fn shares(a: [bool; MAX_BASES], b: [bool; MAX_BASES]) -> bool
         i += 1;
     }
     found
-}
-
-// Whether a is nothing but zeros from k on.
-fn zero_from(a: &[u8], k: usize) -> bool
-    ensures { λ r. ⌜ r ≡ zeroFrom k (now (a .entry)) ⌝ }
-{
-    let mut zero = true;
-    let mut i = k;
-    while i < a.len() {
-        zero = zero & (a[i] == 0);
-        i += 1;
-    }
-    zero
-}
-
-// Whether a marking of n bases is in its form: the bonds fit, and unused entries are 0.
-pub fn in_form(n: usize, m: Marking) -> bool
-    ensures { λ r. ⌜ r ≡ inForm n m ⌝ }
-{
-    let count = m.count;
-    let fits = count <= MAX_BONDS;
-    let lo = zero_from(&m.lo, count);
-    let hi = zero_from(&m.hi, count);
-    let rest = zero_from(&m.places, n);
-    fits & (lo & (hi & rest))
-}
-
-// Whether a and b begin with the same n bytes.
-fn same_bytes<'a>(a: &'a [u8], b: &'a [u8], n: usize) -> bool
-    requires { ⌜ (n ≤ length (now a)) × (n ≤ length (now b)) ⌝ }
-    ensures { λ r. ⌜ r ≡ sameList eqb (take n (now (a .entry))) (take n (now (b .entry))) ⌝ }
-{
-    let mut same = true;
-    let mut i = 0;
-    while i < n {
-        same = same & (a[i] == b[i]);
-        i += 1;
-    }
-    same
-}
-
-// Whether two markings of n bases are the same. Callers know that the bonds fit and n is at most 64.
-pub fn same_marking(n: usize, a: Marking, b: Marking) -> bool
-    requires { ⌜ (n ≤ maxBases) × (a .count ≤ maxBonds) × (b .count ≤ maxBonds) ⌝ }
-    ensures { λ r. ⌜ r ≡ sameMarking (markingOf n a) (markingOf n b) ⌝ }
-{
-    let count = a.count;
-    if count != b.count {
-        return false;
-    }
-    let places = same_bytes(&a.places, &b.places, n);
-    let lo = same_bytes(&a.lo, &b.lo, count);
-    let hi = same_bytes(&a.hi, &b.hi, count);
-    places & (lo & hi)
 }

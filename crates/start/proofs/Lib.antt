@@ -1,1 +1,2 @@
--- Laws that the proofs of this crate's functions cite.
+-- That a good start fits, for the callers.
+pub mod Fitting

@@ -39,12 +39,14 @@ loop-less : tie.Need-loop-less Inv-loop μ-loop
 loop-less c = search needs
 
 loop-again : tie.Need-loop-again Inv-loop μ-loop
-loop-again c = (
-  search needs,
-  search needs,
-  search needs,
-  rw (c .before .before .before .before .loop .inv .3, c .is-bond .ensures) (sym (has-more sameBond _ (c .before .before .before .before .loop .i) (ends (c .before .before .before .before .before .before .before .args .lo .now) (c .before .before .before .before .before .before .before .args .hi .now)))),
-)
+loop-again c =
+    let s = c .before .before .before .before .before .before .before in
+    let at = c .before .before .before .before in (
+      search needs,
+      search needs,
+      search needs,
+      rw (at .loop .inv .3, c .is-bond .ensures) (sym (has-more sameBond _ (at .loop .i) (ends (s .args .lo .now) (s .args .hi .now)))),
+    )
 
 returns : tie.Need-returns Inv-loop μ-loop
 returns c = let e : c .before .loop .i ≡ c .before .before .before .before .args .count = omega arith in c .before .loop .inv .3 ∙ rw e

@@ -42,8 +42,11 @@ loop-less : tie.Need-loop-less Inv-loop μ-loop
 loop-less c = search needs
 
 loop-again : tie.Need-loop-again Inv-loop μ-loop
-loop-again c = let h = c .before .before .before .before .before .before .before .before .pre .1 (c .before .before .before .before .loop .i) (omega arith) in
-    (search needs, label-turn 64 (c .before .before .before .before .before .before .before .before .args .lo .now) (c .before .before .before .before .before .before .before .before .args .hi .now) (c .before .before .before .before .loop .i) _ _ (h .0) (h .1) (c .before .before .before .before .loop .inv .1) (c .join .ensures))
+loop-again c =
+    let s = c .before .before .before .before .before .before .before .before in
+    let at = c .before .before .before .before in
+    let h = s .pre .1 (at .loop .i) (omega arith) in
+    (search needs, label-turn 64 (s .args .lo .now) (s .args .hi .now) (at .loop .i) _ _ (h .0) (h .1) (at .loop .inv .1) (c .join .ensures))
 
 returns : tie.Need-returns Inv-loop μ-loop
 returns c = let e : c .before .loop .i ≡ c .before .before .before .before .before .args .count = omega arith in c .before .loop .inv .1 ∙ rw e

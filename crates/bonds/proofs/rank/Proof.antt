@@ -39,11 +39,14 @@ loop-less : tie.Need-loop-less Inv-loop μ-loop
 loop-less c = search needs
 
 loop-again : tie.Need-loop-again Inv-loop μ-loop
-loop-again c = (
-  search needs,
-  omega arith,
-  rw (c .before .before .before .before .loop .inv .2, c .one-if-less .ensures .0) (sym (count-more (λ (x : Bond). lessBond x (c .before .before .before .before .before .before .before .args .b)) (c .before .before .before .before .loop .i) (ends (c .before .before .before .before .before .before .before .args .lo .now) (c .before .before .before .before .before .before .before .args .hi .now)))),
-)
+loop-again c =
+    let s = c .before .before .before .before .before .before .before in
+    let at = c .before .before .before .before in (
+      search needs,
+      omega arith,
+      rw (at .loop .inv .2, c .one-if-less .ensures .0) (sym (count-more (λ (x : Bond). lessBond x (s .args .b)) (at .loop .i)
+          (ends (s .args .lo .now) (s .args .hi .now)))),
+    )
 
 returns : tie.Need-returns Inv-loop μ-loop
 returns c = let e : c .before .loop .i ≡ c .before .before .before .before .args .count = omega arith in c .before .loop .inv .2 ∙ rw e

@@ -37,16 +37,20 @@ loop-less : tie.Need-loop-less Inv-loop μ-loop
 loop-less c = search needs
 
 loop-again : tie.Need-loop-again Inv-loop μ-loop
-loop-again c = (
-  search needs,
-  search needs,
-  search needs,
-  fill-turn _ (c .before .before .loop .i) _ _ 0 _ (omega arith) (c .new-label .ensures) (c .before .before .loop .inv .3),
-)
+loop-again c =
+    let at = c .before .before in (
+      search needs,
+      search needs,
+      search needs,
+      fill-turn _ (at .loop .i) _ _ 0 _ (omega arith) (c .new-label .ensures) (at .loop .inv .3),
+    )
 
 returns : tie.Need-returns Inv-loop μ-loop
-returns c = fill-end (λ j. renamed (c .before .before .args .from) (c .before .before .args .to) (getD (c .before .before .args .t1) j 0)) (c .before .loop .i) (length (c .before .before .args .t1)) _ _ refl (omega arith) (c .before .loop .inv .3)
-    ∙ table-map (renamed (c .before .before .args .from) (c .before .before .args .to)) (c .before .before .args .t1) 0
+returns c =
+    let s = c .before .before in
+    fill-end (λ j. renamed (s .args .from) (s .args .to) (getD (s .args .t1) j 0)) (c .before .loop .i) (length (s .args .t1)) _ _ refl (omega arith)
+    (c .before .loop .inv .3)
+    ∙ table-map (renamed (s .args .from) (s .args .to)) (s .args .t1) 0
 
 pub rename-spec : {M : Type 1} → statement M
 rename-spec =

@@ -15,7 +15,8 @@ use Rattle.enabling.proofs.bond_present.Tie as tie
 use Rattle.enabling.proofs.bond_present.Statement.{statement}
 
 abbrev Inv-loop : tie.InvT-loop
-Inv-loop step m count held found₀ i₀ found i = (count ≡ outCount step) × (i ≤ count) × (found ≡ any (λ (b : Bond). not (hasBond b (arcsIn step .inBonds)) && hasBond b (bondsOf m)) (table i (nthOutBond step)))
+Inv-loop step m count held found₀ i₀ found i = (count ≡ outCount step) × (i ≤ count) ×
+    (found ≡ any (λ (b : Bond). not (hasBond b (arcsIn step .inBonds)) && hasBond b (bondsOf m)) (table i (nthOutBond step)))
 
 abbrev μ-loop : tie.MeasureT-loop
 μ-loop step m count held found₀ i₀ found i = count - i
@@ -42,7 +43,20 @@ loop-less : tie.Need-loop-less Inv-loop μ-loop
 loop-less c = search needs
 
 loop-again : tie.Need-loop-again Inv-loop μ-loop
-loop-again c = (search needs, search needs, rw (c .before .before .before .before .before .before .before .before .before .loop .inv .2, c .has-bond .ensures, c .before .before .before .before .before .before .is-in-bond .ensures, c .before .before .before .before .before .before .before .out-bond .ensures) (sym (any-more (λ (b : Bond). not (hasBond b (arcsIn (c .before .before .before .before .before .before .before .before .before .before .before .before .args .step .now) .inBonds)) && hasBond b (bondsOf (c .before .before .before .before .before .before .before .before .before .before .before .before .args .t2))) (c .before .before .before .before .before .before .before .before .before .loop .i) (nthOutBond (c .before .before .before .before .before .before .before .before .before .before .before .before .args .step .now)))))
+loop-again c =
+    let s = c .before .before .before .before .before .before .before .before .before .before .before .before in
+    let at = c .before .before .before .before .before .before .before .before .before in (
+      search needs,
+      search needs,
+      rw (
+        at .loop .inv .2,
+        c .has-bond .ensures,
+        c .before .before .before .before .before .before .is-in-bond .ensures,
+        c .before .before .before .before .before .before .before .out-bond .ensures,
+      )
+          (sym (any-more (λ (b : Bond). not (hasBond b (arcsIn (s .args .step .now) .inBonds)) && hasBond b (bondsOf (s .args .t2))) (at .loop .i)
+          (nthOutBond (s .args .step .now)))),
+    )
 
 returns : tie.Need-returns Inv-loop μ-loop
 returns c = λ n. let e : c .before .loop .i ≡ outCount (c .before .before .before .before .args .step .now) = omega arith in c .before .loop .inv .2 ∙ rw e

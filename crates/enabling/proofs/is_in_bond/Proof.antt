@@ -33,7 +33,14 @@ loop-less : tie.Need-loop-less Inv-loop μ-loop
 loop-less c = search needs
 
 loop-again : tie.Need-loop-again Inv-loop μ-loop
-loop-again c = (search needs, search needs, rw (c .before .before .before .before .before .before .loop .inv .2, c .before .before .before .before .in-bond .ensures) (sym (has-more sameBond (c .before .before .before .before .before .before .before .before .before .args .b) (c .before .before .before .before .before .before .loop .i) (nthInBond (c .before .before .before .before .before .before .before .before .before .args .step .now)))))
+loop-again c =
+    let s = c .before .before .before .before .before .before .before .before .before in
+    let at = c .before .before .before .before .before .before in (
+      search needs,
+      search needs,
+      rw (at .loop .inv .2, c .before .before .before .before .in-bond .ensures)
+          (sym (has-more sameBond (s .args .b) (at .loop .i) (nthInBond (s .args .step .now)))),
+    )
 
 returns : tie.Need-returns Inv-loop μ-loop
 returns c = let e : c .before .loop .i ≡ inCount (c .before .before .before .before .args .step .now) = omega arith in c .before .loop .inv .2 ∙ rw e

@@ -18,16 +18,20 @@ use Rattle.enabling.proofs.misplaced.Tie as tie
 use Rattle.enabling.proofs.misplaced.Statement.{statement}
 
 abbrev Inv-loop : tie.InvT-loop
-Inv-loop step n m count found₀ i₀ found i = (count ≡ entryCount step) × (i ≤ count) × (found ≡ any (λ (e : Entry). not (eqb (getD (m .places) (e .base) 0) (e .from))) (table i (nthEntry step)))
+Inv-loop step n m count found₀ i₀ found i = (count ≡ entryCount step) × (i ≤ count) ×
+    (found ≡ any (λ (e : Entry). not (eqb (getD (m .places) (e .base) 0) (e .from))) (table i (nthEntry step)))
 
 abbrev μ-loop : tie.MeasureT-loop
 μ-loop step n m count found₀ i₀ found i = count - i
 
 -- an entry's base is below 64
 near : (c : tie.After-entry Inv-loop μ-loop) → c .entry .result .base < 64
-near c = subst (λ (e : Entry). e .base < 64) (sym (c .entry .ensures))
-    (entry-low (c .before .before .before .before .before .args .n) (arcsIn (c .before .before .before .before .before .args .step .now)) (c .before .before .before .before .before .args .t3) (c .before .before .before .before .before .pre) (nthEntry (c .before .before .before .before .before .args .step .now) (c .before .before .loop .i))
-    (mem-table (entryCount (c .before .before .before .before .before .args .step .now)) (nthEntry (c .before .before .before .before .before .args .step .now)) (c .before .before .loop .i) (omega arith)))
+near c =
+    let s = c .before .before .before .before .before in
+    let at = c .before .before in
+    subst (λ (e : Entry). e .base < 64) (sym (c .entry .ensures))
+    (entry-low (s .args .n) (arcsIn (s .args .step .now)) (s .args .t3) (s .pre) (nthEntry (s .args .step .now) (at .loop .i))
+    (mem-table (entryCount (s .args .step .now)) (nthEntry (s .args .step .now)) (at .loop .i) (omega arith)))
 
 entry-count-requires : tie.Need-entry-count-requires Inv-loop μ-loop
 entry-count-requires c κs = search needs
@@ -51,11 +55,20 @@ loop-less : tie.Need-loop-less Inv-loop μ-loop
 loop-less c = search needs
 
 loop-again : tie.Need-loop-again Inv-loop μ-loop
-loop-again c = (search needs, search needs, rw (c .before .before .before .before .before .loop .inv .2, c .before .before .before .entry .ensures) (sym (any-more (λ (e : Entry). not (eqb (getD (c .before .before .before .before .before .before .before .before .args .t3 .places) (e .base) 0) (e .from))) (c .before .before .before .before .before .loop .i) (nthEntry (c .before .before .before .before .before .before .before .before .args .step .now)))))
+loop-again c =
+    let s = c .before .before .before .before .before .before .before .before in
+    let at = c .before .before .before .before .before in (
+      search needs,
+      search needs,
+      rw (at .loop .inv .2, c .before .before .before .entry .ensures)
+          (sym (any-more (λ (e : Entry). not (eqb (getD (s .args .t3 .places) (e .base) 0) (e .from))) (at .loop .i) (nthEntry (s .args .step .now)))),
+    )
 
 returns : tie.Need-returns Inv-loop μ-loop
-returns c = let e : c .before .loop .i ≡ entryCount (c .before .before .before .before .args .step .now) = omega arith in
-    c .before .loop .inv .2 ∙ rw e (misplaced-here (c .before .before .before .before .args .n) (arcsIn (c .before .before .before .before .args .step .now)) (c .before .before .before .before .args .t3) (c .before .before .before .before .pre))
+returns c =
+    let s = c .before .before .before .before in
+    let e : c .before .loop .i ≡ entryCount (s .args .step .now) = omega arith in
+    c .before .loop .inv .2 ∙ rw e (misplaced-here (s .args .n) (arcsIn (s .args .step .now)) (s .args .t3) (s .pre))
 
 pub misplaced-spec : {M : Type 1} → statement M
 misplaced-spec =

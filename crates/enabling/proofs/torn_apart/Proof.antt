@@ -9,17 +9,26 @@ use Rattle.enabling.proofs.torn_apart.Tie as tie
 use Rattle.enabling.proofs.torn_apart.Statement.{statement}
 
 labels-requires : tie.Need-labels-requires
-labels-requires c κs = let h = room (c .before .before .before .before .before .before .args .n) (arcsIn (c .before .before .before .before .before .before .args .step .now)) (c .before .before .before .before .before .before .args .t3) (c .before .before .before .before .before .before .pre) in
-    ((omega arith, omega arith), ends-low (c .before .before .before .before .before .before .args .n) (arcsIn (c .before .before .before .before .before .before .args .step .now)) (c .before .before .before .before .before .before .args .t3) (c .before .before .before .before .before .before .pre))
+labels-requires c κs =
+    let s = c .before .before .before .before .before .before in
+    let h = room (s .args .n) (arcsIn (s .args .step .now)) (s .args .t3) (s .pre) in
+    ((omega arith, omega arith), ends-low (s .args .n) (arcsIn (s .args .step .now)) (s .args .t3) (s .pre))
 
 grouped-requires : tie.Need-grouped-requires
-grouped-requires c κs = entries-low (c .before .before .before .before .before .before .before .args .n) (c .before .before .before .before .before .before .before .args .step .now) (c .before .before .before .before .before .before .before .args .t3) (c .before .before .before .before .before .before .before .pre) _ (c .labels .ensures)
+grouped-requires c κs =
+    let s = c .before .before .before .before .before .before .before in
+    entries-low (s .args .n) (s .args .step .now) (s .args .t3) (s .pre) _ (c .labels .ensures)
 
 torn-requires : tie.Need-torn-requires
-torn-requires c κs = entries-low (c .before .before .before .before .before .before .before .before .args .n) (c .before .before .before .before .before .before .before .before .args .step .now) (c .before .before .before .before .before .before .before .before .args .t3) (c .before .before .before .before .before .before .before .before .pre) _ (c .before .labels .ensures)
+torn-requires c κs =
+    let s = c .before .before .before .before .before .before .before .before in
+    entries-low (s .args .n) (s .args .step .now) (s .args .t3) (s .pre) _ (c .before .labels .ensures)
 
 returns : tie.Need-returns
-returns c = c .torn .ensures ∙ torn-here (c .before .before .before .before .before .before .before .before .before .args .n) (arcsIn (c .before .before .before .before .before .before .before .before .before .args .step .now)) (c .before .before .before .before .before .before .before .before .before .args .t3) (c .before .before .before .before .before .before .before .before .before .pre) _ (c .before .before .labels .ensures) _ (c .before .grouped .ensures)
+returns c =
+    let s = c .before .before .before .before .before .before .before .before .before in
+    c .torn .ensures ∙ torn-here (s .args .n) (arcsIn (s .args .step .now)) (s .args .t3) (s .pre) _ (c .before .before .labels .ensures) _
+    (c .before .grouped .ensures)
 
 pub torn-apart-spec : {M : Type 1} → statement M
 torn-apart-spec = tie.close (tie.spec labels-requires grouped-requires torn-requires returns)

@@ -15,7 +15,8 @@ use Rattle.engine.proofs.remove_new_bonds.Tie as tie
 use Rattle.engine.proofs.remove_new_bonds.Statement.{statement}
 
 abbrev Inv-loop : tie.InvT-loop
-Inv-loop step count held₀ i₀ held i = (count ≡ outCount step) × (i ≤ count) × (held ≡ withBonds held₀ (keep (λ (c : Bond). not (hasBond c (table i (nthOutBond step)) && not (hasBond c (arcsIn step .inBonds)))) (bondsOf held₀)))
+Inv-loop step count held₀ i₀ held i = (count ≡ outCount step) × (i ≤ count) ×
+    (held ≡ withBonds held₀ (keep (λ (c : Bond). not (hasBond c (table i (nthOutBond step)) && not (hasBond c (arcsIn step .inBonds)))) (bondsOf held₀)))
 
 abbrev μ-loop : tie.MeasureT-loop
 μ-loop step count held₀ i₀ held i = count - i
@@ -24,14 +25,18 @@ out-count-requires : tie.Need-out-count-requires Inv-loop μ-loop
 out-count-requires c κs = search needs
 
 loop-holds : tie.Need-loop-holds Inv-loop μ-loop
-loop-holds c = (c .out-count .ensures, search needs, left-all (arcsIn (c .before .before .args .step .now)) (c .before .before .args .m) (c .before .before .pre) (nthOutBond (c .before .before .args .step .now)))
+loop-holds c =
+    let s = c .before .before in
+    (c .out-count .ensures, search needs, left-all (arcsIn (s .args .step .now)) (s .args .m) (s .pre) (nthOutBond (s .args .step .now)))
 
 out-bond-requires : tie.Need-out-bond-requires Inv-loop μ-loop
 out-bond-requires c κs = search needs
 
 take-out-requires : tie.Need-take-out-requires Inv-loop μ-loop
-take-out-requires c κs = let s = (c .before .before .before .before .before) in
-    take-asks (arcsIn (s .args .step .now)) (s .args .m) (s .pre) (nthOutBond (s .args .step .now)) (c .before .before .loop .i) _ (c .before .before .loop .inv .2)
+take-out-requires c κs =
+    let at = c .before .before in
+    let s = (c .before .before .before .before .before) in
+    take-asks (arcsIn (s .args .step .now)) (s .args .m) (s .pre) (nthOutBond (s .args .step .now)) (at .loop .i) _ (at .loop .inv .2)
 
 add-i : tie.Need-add-i Inv-loop μ-loop
 add-i c = search needs
@@ -40,8 +45,14 @@ loop-less : tie.Need-loop-less Inv-loop μ-loop
 loop-less c = search needs
 
 loop-again : tie.Need-loop-again Inv-loop μ-loop
-loop-again c = let s = (c .before .before .before .before .before .before) in
-    (search needs, search needs, take-gives (arcsIn (s .args .step .now)) (s .args .m) (s .pre) (nthOutBond (s .args .step .now)) (c .before .before .before .loop .i) _ (c .before .before .before .loop .inv .2) _ (c .before .out-bond .ensures) _ (c .take-out .ensures))
+loop-again c =
+    let at = c .before .before .before in
+    let s = (c .before .before .before .before .before .before) in (
+      search needs,
+      search needs,
+      take-gives (arcsIn (s .args .step .now)) (s .args .m) (s .pre) (nthOutBond (s .args .step .now)) (at .loop .i) _
+          (at .loop .inv .2) _ (c .before .out-bond .ensures) _ (c .take-out .ensures),
+    )
 
 returns : tie.Need-returns Inv-loop μ-loop
 returns c = let e : c .before .loop .i ≡ outCount (c .before .before .before .before .args .step .now) = omega arith in c .before .loop .inv .2 ∙ rw e

@@ -24,17 +24,22 @@ abbrev μ-loop : tie.MeasureT-loop
 
 -- the entry's base and its label are below 64
 near : (c : tie.After-entry Inv-loop μ-loop) → (c .entry .result .base < 64) × (labelIn (c .before .before .before .before .before .args .t2) (c .entry .result .base) < 64)
-near c = subst (λ (e : Entry). (e .base < 64) × (labelIn (c .before .before .before .before .before .args .t2) (e .base) < 64)) (sym (c .entry .ensures)) (c .before .before .before .before .before .pre (c .before .before .loop .left - 1) (omega arith))
+near c =
+    let s = c .before .before .before .before .before in
+    subst (λ (e : Entry). (e .base < 64) × (labelIn (s .args .t2) (e .base) < 64)) (sym (c .entry .ensures))
+    (s .pre (c .before .before .loop .left - 1) (omega arith))
 
 entry-count-requires : tie.Need-entry-count-requires Inv-loop μ-loop
 entry-count-requires c κs = search needs
 
 loop-holds : tie.Need-loop-holds Inv-loop μ-loop
-loop-holds c = let e = c .entry-count .ensures in (
-  omega arith,
-  first-none 64 (entryCount (c .before .before .args .step .now)) there (labelIn (c .before .before .args .t2)) (nthEntry (c .before .before .args .step .now)) false (c .entry-count .result) e,
-  first-none 64 (entryCount (c .before .before .args .step .now)) (side (c .before .before .args .back)) (labelIn (c .before .before .args .t2)) (nthEntry (c .before .before .args .step .now)) 0 (c .entry-count .result) e,
-)
+loop-holds c =
+    let s = c .before .before in
+    let e = c .entry-count .ensures in (
+      omega arith,
+      first-none 64 (entryCount (s .args .step .now)) there (labelIn (s .args .t2)) (nthEntry (s .args .step .now)) false (c .entry-count .result) e,
+      first-none 64 (entryCount (s .args .step .now)) (side (s .args .back)) (labelIn (s .args .t2)) (nthEntry (s .args .step .now)) 0 (c .entry-count .result) e,
+    )
 
 sub-left : tie.Need-sub-left Inv-loop μ-loop
 sub-left c = search needs
@@ -64,18 +69,28 @@ loop-less : tie.Need-loop-less Inv-loop μ-loop
 loop-less c = search needs
 
 loop-again : tie.Need-loop-again Inv-loop μ-loop
-loop-again c = let h = near (c .before .before) in (
-  omega arith,
-  first-turn 64 (entryCount (c .before .before .before .before .before .before .before .args .step .now)) there (labelIn (c .before .before .before .before .before .before .before .args .t2)) (nthEntry (c .before .before .before .before .before .before .before .args .step .now)) false (c .before .before .before .before .loop .left) (c .before .before .entry .result) _ _
-      (omega arith) (omega arith) (c .before .before .entry .ensures) (h .1) refl (c .before .before .before .before .loop .inv .1),
-  first-turn 64 (entryCount (c .before .before .before .before .before .before .before .args .step .now)) (side (c .before .before .before .before .before .before .before .args .back)) (labelIn (c .before .before .before .before .before .before .before .args .t2)) (nthEntry (c .before .before .before .before .before .before .before .args .step .now)) 0 (c .before .before .before .before .loop .left) (c .before .before .entry .result) _ _
-      (omega arith) (omega arith) (c .before .before .entry .ensures) (h .1) (c .side .ensures) (c .before .before .before .before .loop .inv .2),
-)
+loop-again c =
+    let s = c .before .before .before .before .before .before .before in
+    let at = c .before .before .before .before in
+    let h = near (c .before .before) in (
+      omega arith,
+      first-turn 64 (entryCount (s .args .step .now)) there (labelIn (s .args .t2)) (nthEntry (s .args .step .now)) false (at .loop .left)
+          (c .before .before .entry .result) _ _
+          (omega arith) (omega arith) (c .before .before .entry .ensures) (h .1) refl (at .loop .inv .1),
+      first-turn 64 (entryCount (s .args .step .now)) (side (s .args .back)) (labelIn (s .args .t2)) (nthEntry (s .args .step .now)) 0 (at .loop .left)
+          (c .before .before .entry .result) _ _
+          (omega arith) (omega arith) (c .before .before .entry .ensures) (h .1) (c .side .ensures) (at .loop .inv .2),
+    )
 
 returns : tie.Need-returns Inv-loop μ-loop
-returns c = let e : c .before .loop .left ≡ 0 = omega arith in
-    let p = first-all 64 (entryCount (c .before .before .before .before .args .step .now)) there (labelIn (c .before .before .before .before .args .t2)) (nthEntry (c .before .before .before .before .args .step .now)) false (c .before .loop .left) _ e (c .before .loop .inv .1) in
-    let q = first-all 64 (entryCount (c .before .before .before .before .args .step .now)) (side (c .before .before .before .before .args .back)) (labelIn (c .before .before .before .before .args .t2)) (nthEntry (c .before .before .before .before .args .step .now)) 0 (c .before .loop .left) _ e (c .before .loop .inv .2) in
+returns c =
+    let s = c .before .before .before .before in
+    let at = c .before in
+    let e : at .loop .left ≡ 0 = omega arith in
+    let p = first-all 64 (entryCount (s .args .step .now)) there (labelIn (s .args .t2)) (nthEntry (s .args .step .now)) false (at .loop .left) _ e
+    (at .loop .inv .1) in
+    let q = first-all 64 (entryCount (s .args .step .now)) (side (s .args .back)) (labelIn (s .args .t2)) (nthEntry (s .args .step .now)) 0 (at .loop .left) _ e
+    (at .loop .inv .2) in
     λ i. record { hit = p i; place = q i }
 
 pub grouped-spec : {M : Type 1} → statement M

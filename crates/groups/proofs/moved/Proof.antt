@@ -15,7 +15,8 @@ use Rattle.groups.proofs.moved.Tie as tie
 use Rattle.groups.proofs.moved.Statement.{statement}
 
 abbrev Inv-loop : tie.InvT-loop
-Inv-loop n labels g new₀ p₀ new p = (p ≤ n) × (new₀ ≡ replicate 64 false) × (length new₀ ≡ 64) × (new ≡ table p (λ q. getD (g .hit) (labelIn labels q) false) ++ drop p new₀)
+Inv-loop n labels g new₀ p₀ new p = (p ≤ n) × (new₀ ≡ replicate 64 false) × (length new₀ ≡ 64) ×
+    (new ≡ table p (λ q. getD (g .hit) (labelIn labels q) false) ++ drop p new₀)
 
 abbrev μ-loop : tie.MeasureT-loop
 μ-loop n labels g new₀ p₀ new p = n - p
@@ -42,10 +43,21 @@ loop-less : tie.Need-loop-less Inv-loop μ-loop
 loop-less c = search needs
 
 loop-again : tie.Need-loop-again Inv-loop μ-loop
-loop-again c = (search needs, search needs, search needs, fill-turn (λ q. getD (c .before .before .before .args .t3 .hit) (labelIn (c .before .before .before .args .t2) q) false) (c .before .before .loop .p) _ _ false _ (omega arith) refl (c .before .before .loop .inv .3))
+loop-again c =
+    let s = c .before .before .before in
+    let at = c .before .before in (
+      search needs,
+      search needs,
+      search needs,
+      fill-turn (λ q. getD (s .args .t3 .hit) (labelIn (s .args .t2) q) false) (at .loop .p) _ _ false _ (omega arith)
+          refl (at .loop .inv .3),
+    )
 
 returns : tie.Need-returns Inv-loop μ-loop
-returns c = fill-padded (λ q. getD (c .before .before .args .t3 .hit) (labelIn (c .before .before .args .t2) q) false) false (c .before .loop .p) (c .before .before .args .n) 64 _ _ (c .before .loop .inv .1) (omega arith) (c .before .loop .inv .3)
+returns c =
+    let s = c .before .before in
+    fill-padded (λ q. getD (s .args .t3 .hit) (labelIn (s .args .t2) q) false) false (c .before .loop .p) (s .args .n) 64 _ _ (c .before .loop .inv .1)
+    (omega arith) (c .before .loop .inv .3)
 
 pub moved-spec : {M : Type 1} → statement M
 moved-spec =

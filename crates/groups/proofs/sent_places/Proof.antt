@@ -15,7 +15,8 @@ use Rattle.groups.proofs.sent_places.Tie as tie
 use Rattle.groups.proofs.sent_places.Statement.{statement}
 
 abbrev Inv-loop : tie.InvT-loop
-Inv-loop n places labels g may new₀ p₀ new p = (p ≤ n) × (new₀ ≡ replicate 64 0) × (length new₀ ≡ 64) × (new ≡ table p (λ q. goesTo g (labelIn labels q) (getD may q false) (getD places q 0)) ++ drop p new₀)
+Inv-loop n places labels g may new₀ p₀ new p = (p ≤ n) × (new₀ ≡ replicate 64 0) × (length new₀ ≡ 64) ×
+    (new ≡ table p (λ q. goesTo g (labelIn labels q) (getD may q false) (getD places q 0)) ++ drop p new₀)
 
 abbrev μ-loop : tie.MeasureT-loop
 μ-loop n places labels g may new₀ p₀ new p = n - p
@@ -54,10 +55,21 @@ loop-less : tie.Need-loop-less Inv-loop μ-loop
 loop-less c = search needs
 
 loop-again : tie.Need-loop-again Inv-loop μ-loop
-loop-again c = (search needs, search needs, search needs, fill-turn (λ q. goesTo (c .before .before .before .before .before .args .t4) (labelIn (c .before .before .before .before .before .args .t3) q) (getD (c .before .before .before .before .before .args .t5) q false) (getD (c .before .before .before .before .before .args .t2) q 0)) (c .before .before .before .before .loop .p) _ _ 0 _ (omega arith) (c .chosen .ensures) (c .before .before .before .before .loop .inv .3))
+loop-again c =
+    let s = c .before .before .before .before .before in
+    let at = c .before .before .before .before in (
+      search needs,
+      search needs,
+      search needs,
+      fill-turn (λ q. goesTo (s .args .t4) (labelIn (s .args .t3) q) (getD (s .args .t5) q false)
+          (getD (s .args .t2) q 0)) (at .loop .p) _ _ 0 _ (omega arith) (c .chosen .ensures) (at .loop .inv .3),
+    )
 
 returns : tie.Need-returns Inv-loop μ-loop
-returns c = fill-padded (λ q. goesTo (c .before .before .args .t4) (labelIn (c .before .before .args .t3) q) (getD (c .before .before .args .t5) q false) (getD (c .before .before .args .t2) q 0)) 0 (c .before .loop .p) (c .before .before .args .n) 64 _ _ (c .before .loop .inv .1) (omega arith) (c .before .loop .inv .3)
+returns c =
+    let s = c .before .before in
+    fill-padded (λ q. goesTo (s .args .t4) (labelIn (s .args .t3) q) (getD (s .args .t5) q false) (getD (s .args .t2) q 0)) 0 (c .before .loop .p) (s .args .n)
+    64 _ _ (c .before .loop .inv .1) (omega arith) (c .before .loop .inv .3)
 
 pub sent-places-spec : {M : Type 1} → statement M
 sent-places-spec =

@@ -29,7 +29,9 @@ abbrev μ-loop : tie.MeasureT-loop
 
 -- an entry's base and its label are below 64
 near : (c : tie.After-entry Inv-loop μ-loop) → (c .entry .result .base < 64) × (labelIn (c .before .before .before .before .before .args .t2) (c .entry .result .base) < 64)
-near c = subst (λ (e : Entry). (e .base < 64) × (labelIn (c .before .before .before .before .before .args .t2) (e .base) < 64)) (sym (c .entry .ensures)) (c .before .before .before .before .before .pre (c .before .before .loop .i) (omega arith))
+near c =
+    let s = c .before .before .before .before .before in
+    subst (λ (e : Entry). (e .base < 64) × (labelIn (s .args .t2) (e .base) < 64)) (sym (c .entry .ensures)) (s .pre (c .before .before .loop .i) (omega arith))
 
 entry-count-requires : tie.Need-entry-count-requires Inv-loop μ-loop
 entry-count-requires c κs = search needs
@@ -59,7 +61,14 @@ loop-less : tie.Need-loop-less Inv-loop μ-loop
 loop-less c = search needs
 
 loop-again : tie.Need-loop-again Inv-loop μ-loop
-loop-again c = (search needs, search needs, rw (c .before .before .before .before .before .loop .inv .2, c .before .before .before .entry .ensures) (sym (any-more (elsewhere (c .before .before .before .before .before .before .before .before .args .t2) (c .before .before .before .before .before .before .before .before .args .t3)) (c .before .before .before .before .before .loop .i) (nthEntry (c .before .before .before .before .before .before .before .before .args .step .now)))))
+loop-again c =
+    let s = c .before .before .before .before .before .before .before .before in
+    let at = c .before .before .before .before .before in (
+      search needs,
+      search needs,
+      rw (at .loop .inv .2, c .before .before .before .entry .ensures)
+          (sym (any-more (elsewhere (s .args .t2) (s .args .t3)) (at .loop .i) (nthEntry (s .args .step .now)))),
+    )
 
 returns : tie.Need-returns Inv-loop μ-loop
 returns c = let e : c .before .loop .i ≡ entryCount (c .before .before .before .before .args .step .now) = omega arith in c .before .loop .inv .2 ∙ rw e

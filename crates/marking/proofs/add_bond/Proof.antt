@@ -40,7 +40,9 @@ has-bond-requires : tie.Need-has-bond-requires
 has-bond-requires c κs = search needs
 
 returns : tie.Need-returns
-returns c = not-added (c .before .before .before .before .before .before .before .args .t1) (c .before .before .before .before .before .before .before .args .b) (c .before .before .before .before .before .before .before .pre .0) (sym (c .before .has-bond .ensures) ∙ c .if1 .taken)
+returns c =
+    let s = c .before .before .before .before .before .before .before in
+    not-added (s .args .t1) (s .args .b) (s .pre .0) (sym (c .before .has-bond .ensures) ∙ c .if1 .taken)
 
 rank-requires : tie.Need-rank-requires
 rank-requires c κs = search needs
@@ -55,8 +57,12 @@ add-t22 : tie.Need-add-t22
 add-t22 c = search needs
 
 returns-2 : tie.Need-returns-2
-returns-2 c = let s : tie.Start = (c .before .before .before .before .before .before .before .before .before .before .before .before .before .before .before .before .before .before .before .before .before .before) in
-    added (s .args .t1) (s .args .b) (s .pre .0 .order) (c .before .before .before .before .before .before .before .before .before .rank .result) _ _ (absent (c .before .before .before .before .before .before .before .before .before .before .before .before .before .before .before)) (c .before .before .before .before .before .before .before .before .before .rank .ensures) (c .before .before .before .before .before .inserted .ensures) (c .before .inserted2 .ensures)
+returns-2 c = let s : tie.Start =
+    (c .before .before .before .before .before .before .before .before .before .before .before .before .before .before .before .before .before .before .before .before .before .before) in
+    added (s .args .t1) (s .args .b) (s .pre .0 .order) (c .before .before .before .before .before .before .before .before .before .rank .result) _ _
+    (absent (c .before .before .before .before .before .before .before .before .before .before .before .before .before .before .before))
+    (c .before .before .before .before .before .before .before .before .before .rank .ensures) (c .before .before .before .before .before .inserted .ensures)
+    (c .before .inserted2 .ensures)
 
 pub add-bond-spec : {M : Type 1} → statement M
 add-bond-spec =

@@ -17,10 +17,14 @@ shared-slice-read-result-2 : tie.Need-shared-slice-read-result-2
 shared-slice-read-result-2 c = search needs
 
 returns : tie.Need-returns
-returns c = sym (gap-below (c .before .before .args .k) (λ i. getD (c .before .before .args .a .now) i 0) (c .before .before .args .j) (c .before .if1 .taken))
+returns c =
+    let s = c .before .before in
+    sym (gap-below (s .args .k) (λ i. getD (s .args .a .now) i 0) (s .args .j) (c .before .if1 .taken))
 
 returns-2 : tie.Need-returns-2
-returns-2 c = sym (gap-from (c .before .before .args .k) (λ i. getD (c .before .before .args .a .now) i 0) (c .before .before .args .j) (c .before .if1 .left))
+returns-2 c =
+    let s = c .before .before in
+    sym (gap-from (s .args .k) (λ i. getD (s .args .a .now) i 0) (s .args .j) (c .before .if1 .left))
 
 pub at-gap-spec : {M : Type 1} → statement M
 at-gap-spec =

@@ -18,13 +18,19 @@ shared-slice-read-result-2 : tie.Need-shared-slice-read-result-2
 shared-slice-read-result-2 c = search needs
 
 returns : tie.Need-returns
-returns c = sym (slot-below (c .before .before .args .k) (c .before .before .args .x) (λ i. getD (c .before .before .args .a .now) i 0) (c .before .before .args .j) (c .before .if1 .taken))
+returns c =
+    let s = c .before .before in
+    sym (slot-below (s .args .k) (s .args .x) (λ i. getD (s .args .a .now) i 0) (s .args .j) (c .before .if1 .taken))
 
 returns-2 : tie.Need-returns-2
-returns-2 c = sym (slot-at (c .before .before .args .k) (c .before .before .args .x) (λ i. getD (c .before .before .args .a .now) i 0) (c .before .before .args .j) (c .if2 .taken))
+returns-2 c =
+    let s = c .before .before in
+    sym (slot-at (s .args .k) (s .args .x) (λ i. getD (s .args .a .now) i 0) (s .args .j) (c .if2 .taken))
 
 returns-3 : tie.Need-returns-3
-returns-3 c = sym (slot-above (c .before .before .before .args .k) (c .before .before .before .args .x) (λ i. getD (c .before .before .before .args .a .now) i 0) (c .before .before .before .args .j) (omega arith))
+returns-3 c =
+    let s = c .before .before .before in
+    sym (slot-above (s .args .k) (s .args .x) (λ i. getD (s .args .a .now) i 0) (s .args .j) (omega arith))
 
 pub at-slot-spec : {M : Type 1} → statement M
 at-slot-spec =

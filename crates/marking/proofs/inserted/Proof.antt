@@ -35,7 +35,9 @@ loop-less : tie.Need-loop-less Inv-loop μ-loop
 loop-less c = search needs
 
 loop-again : tie.Need-loop-again Inv-loop μ-loop
-loop-again c = (search needs, search needs, search needs, fill-turn _ (c .before .before .loop .j) _ _ 0 _ (omega arith) (c .at-slot .ensures) (c .before .before .loop .inv .3))
+loop-again c =
+    let at = c .before .before in
+    (search needs, search needs, search needs, fill-turn _ (at .loop .j) _ _ 0 _ (omega arith) (c .at-slot .ensures) (at .loop .inv .3))
 
 returns : tie.Need-returns Inv-loop μ-loop
 returns c = fill-padded _ 0 (c .before .loop .j) (c .before .before .before .args .n + 1) 2016 _ _ (c .before .loop .inv .1) (omega arith) (c .before .loop .inv .3)

@@ -26,23 +26,31 @@ has-bond-requires : tie.Need-has-bond-requires
 has-bond-requires c κs = search needs
 
 returns : tie.Need-returns
-returns c = not-taken (c .before .before .before .before .before .before .before .args .t1) (c .before .before .before .before .before .before .before .args .b) (c .before .before .before .before .before .before .before .pre) (sym (c .before .has-bond .ensures) ∙ not-true _ (c .if1 .taken))
+returns c =
+    let s = c .before .before .before .before .before .before .before in
+    not-taken (s .args .t1) (s .args .b) (s .pre) (sym (c .before .has-bond .ensures) ∙ not-true _ (c .if1 .taken))
 
 rank-requires : tie.Need-rank-requires
 rank-requires c κs = search needs
 
 removed-requires : tie.Need-removed-requires
-removed-requires c κs = let h = many (c .before .before .before .before .before .before .before .before .before) in (h, c .before .before .before .before .before .before .before .before .before .before .before .before .before .before .before .before .pre .room, omega arith)
+removed-requires c κs = let h = many (c .before .before .before .before .before .before .before .before .before) in
+    (h, c .before .before .before .before .before .before .before .before .before .before .before .before .before .before .before .before .pre .room, omega arith)
 
 removed-requires-2 : tie.Need-removed-requires-2
-removed-requires-2 c κs = let h = many (c .before .before .before .before .before .before .before .before .before .before .before .before .before) in (h, c .before .before .before .before .before .before .before .before .before .before .before .before .before .before .before .before .before .before .before .before .pre .room, omega arith)
+removed-requires-2 c κs = let h = many (c .before .before .before .before .before .before .before .before .before .before .before .before .before) in
+    (h, c .before .before .before .before .before .before .before .before .before .before .before .before .before .before .before .before .before .before .before .before .pre .room, omega arith)
 
 sub-t23 : tie.Need-sub-t23
 sub-t23 c = let h = many (c .before .before .before .before .before .before .before .before .before .before .before .before .before .before .before) in omega arith
 
 returns-2 : tie.Need-returns-2
-returns-2 c = let s : tie.Start = (c .before .before .before .before .before .before .before .before .before .before .before .before .before .before .before .before .before .before .before .before .before .before) in
-    taken (s .args .t1) (s .args .b) (s .pre .order) (c .before .before .before .before .before .before .before .before .before .rank .result) _ _ (present (c .before .before .before .before .before .before .before .before .before .before .before .before .before .before .before)) (c .before .before .before .before .before .before .before .before .before .rank .ensures) (c .before .before .before .before .before .removed .ensures) (c .before .removed2 .ensures)
+returns-2 c = let s : tie.Start =
+    (c .before .before .before .before .before .before .before .before .before .before .before .before .before .before .before .before .before .before .before .before .before .before) in
+    taken (s .args .t1) (s .args .b) (s .pre .order) (c .before .before .before .before .before .before .before .before .before .rank .result) _ _
+    (present (c .before .before .before .before .before .before .before .before .before .before .before .before .before .before .before))
+    (c .before .before .before .before .before .before .before .before .before .rank .ensures) (c .before .before .before .before .before .removed .ensures)
+    (c .before .removed2 .ensures)
 
 pub remove-bond-spec : {M : Type 1} → statement M
 remove-bond-spec =

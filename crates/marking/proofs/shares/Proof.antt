@@ -33,11 +33,15 @@ loop-less : tie.Need-loop-less Inv-loop μ-loop
 loop-less c = search needs
 
 loop-again : tie.Need-loop-again Inv-loop μ-loop
-loop-again c = (search needs, rw (c .before .loop .inv .1) (sym (any-more self (c .before .loop .i) (shared (c .before .before .args .t1) (c .before .before .args .t2)))))
+loop-again c =
+    let s = c .before .before in
+    (search needs, rw (c .before .loop .inv .1) (sym (any-more self (c .before .loop .i) (shared (s .args .t1) (s .args .t2)))))
 
 returns : tie.Need-returns Inv-loop μ-loop
-returns c = let e : c .before .loop .i ≡ length (c .before .before .args .t1) = omega arith in
-    c .before .loop .inv .1 ∙ rw e (sym (common-table (c .before .before .args .t1) (c .before .before .args .t2) (omega arith)))
+returns c =
+    let s = c .before .before in
+    let e : c .before .loop .i ≡ length (s .args .t1) = omega arith in
+    c .before .loop .inv .1 ∙ rw e (sym (common-table (s .args .t1) (s .args .t2) (omega arith)))
 
 pub shares-spec : {M : Type 1} → statement M
 shares-spec =

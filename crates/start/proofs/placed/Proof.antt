@@ -36,11 +36,21 @@ loop-less : tie.Need-loop-less Inv-loop μ-loop
 loop-less c = search needs
 
 loop-again : tie.Need-loop-again Inv-loop μ-loop
-loop-again c = (search needs, search needs, search needs, fill-turn (λ j. getD (c .before .before .before .args .s .now) j 0) (c .before .before .loop .i) _ _ 0 _ (omega arith) refl (c .before .before .loop .inv .3))
+loop-again c =
+    let at = c .before .before in (
+      search needs,
+      search needs,
+      search needs,
+      fill-turn (λ j. getD (c .before .before .before .args .s .now) j 0) (at .loop .i) _ _ 0 _ (omega arith) refl
+          (at .loop .inv .3),
+    )
 
 returns : tie.Need-returns Inv-loop μ-loop
-returns c = fill-padded (λ j. getD (c .before .before .args .s .now) j 0) 0 (c .before .loop .i) (length (c .before .before .args .s .now)) 64 _ _ (c .before .loop .inv .1) (omega arith) (c .before .loop .inv .3)
-    ∙ ap (padded 64) (table-list (c .before .before .args .s .now) 0)
+returns c =
+    let s = c .before .before in
+    fill-padded (λ j. getD (s .args .s .now) j 0) 0 (c .before .loop .i) (length (s .args .s .now)) 64 _ _ (c .before .loop .inv .1) (omega arith)
+    (c .before .loop .inv .3)
+    ∙ ap (padded 64) (table-list (s .args .s .now) 0)
 
 pub placed-spec : {M : Type 1} → statement M
 placed-spec =

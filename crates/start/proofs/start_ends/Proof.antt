@@ -16,7 +16,8 @@ use Rattle.start.proofs.start_ends.Tie as tie
 use Rattle.start.proofs.start_ends.Statement.{statement}
 
 abbrev Inv-loop : tie.InvT-loop
-Inv-loop sheet count lo₀ hi₀ i₀ lo hi i = (count ≡ startBondCount sheet) × (i ≤ count) × (lo₀ ≡ replicate 2016 0) × (length lo₀ ≡ 2016) × (hi₀ ≡ replicate 2016 0) × (length hi₀ ≡ 2016)
+Inv-loop sheet count lo₀ hi₀ i₀ lo hi i = (count ≡ startBondCount sheet) × (i ≤ count) × (lo₀ ≡ replicate 2016 0) × (length lo₀ ≡ 2016) ×
+    (hi₀ ≡ replicate 2016 0) × (length hi₀ ≡ 2016)
     × (lo ≡ table i (λ j. nthStartBond sheet j .lo) ++ drop i lo₀) × (hi ≡ table i (λ j. nthStartBond sheet j .hi) ++ drop i hi₀)
 
 abbrev μ-loop : tie.MeasureT-loop
@@ -50,22 +51,28 @@ loop-less : tie.Need-loop-less Inv-loop μ-loop
 loop-less c = search needs
 
 loop-again : tie.Need-loop-again Inv-loop μ-loop
-loop-again c = let b = c .start-bond .ensures in let s = (c .before .before .before .before .before) in (
-  search needs,
-  search needs,
-  search needs,
-  search needs,
-  search needs,
-  search needs,
-  fill-turn (λ j. nthStartBond (s .args .sheet .now) j .lo) (c .before .before .loop .i) _ _ 0 _ (omega arith) (ap (λ (d : Bond). d .lo) b) (c .before .before .loop .inv .6),
-  fill-turn (λ j. nthStartBond (s .args .sheet .now) j .hi) (c .before .before .loop .i) _ _ 0 _ (omega arith) (ap (λ (d : Bond). d .hi) b) (c .before .before .loop .inv .7),
-)
+loop-again c =
+    let at = c .before .before in
+    let b = c .start-bond .ensures in let s = (c .before .before .before .before .before) in (
+      search needs,
+      search needs,
+      search needs,
+      search needs,
+      search needs,
+      search needs,
+      fill-turn (λ j. nthStartBond (s .args .sheet .now) j .lo) (at .loop .i) _ _ 0 _ (omega arith) (ap (λ (d : Bond). d .lo) b) (at .loop .inv .6),
+      fill-turn (λ j. nthStartBond (s .args .sheet .now) j .hi) (at .loop .i) _ _ 0 _ (omega arith) (ap (λ (d : Bond). d .hi) b) (at .loop .inv .7),
+    )
 
 returns : tie.Need-returns Inv-loop μ-loop
-returns c = let s = (c .before .before .before .before) in let k = startBondCount (s .args .sheet .now) in let f = nthStartBond (s .args .sheet .now) in (
-  fill-padded (λ j. f j .lo) 0 (c .before .loop .i) k 2016 _ _ (c .before .loop .inv .2) (omega arith) (c .before .loop .inv .6) ∙ ap (padded 2016) (sym (map-table (λ (d : Bond). d .lo) k f)),
-  fill-padded (λ j. f j .hi) 0 (c .before .loop .i) k 2016 _ _ (c .before .loop .inv .4) (omega arith) (c .before .loop .inv .7) ∙ ap (padded 2016) (sym (map-table (λ (d : Bond). d .hi) k f)),
-)
+returns c =
+    let at = c .before in
+    let s = (c .before .before .before .before) in let k = startBondCount (s .args .sheet .now) in let f = nthStartBond (s .args .sheet .now) in (
+      fill-padded (λ j. f j .lo) 0 (at .loop .i) k 2016 _ _ (at .loop .inv .2) (omega arith) (at .loop .inv .6)
+          ∙ ap (padded 2016) (sym (map-table (λ (d : Bond). d .lo) k f)),
+      fill-padded (λ j. f j .hi) 0 (at .loop .i) k 2016 _ _ (at .loop .inv .4) (omega arith) (at .loop .inv .7)
+          ∙ ap (padded 2016) (sym (map-table (λ (d : Bond). d .hi) k f)),
+    )
 
 pub start-ends-spec : {M : Type 1} → statement M
 start-ends-spec =

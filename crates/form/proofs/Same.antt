@@ -4,6 +4,7 @@ use mathlib.Core.Path.{_≡_, refl, sym, _∙_, ap, ap₂}
 use mathlib.Core.Bool.{Bool, true, false, _&&_, and-false}
 use mathlib.Core.List.{List, [], _∷_}
 use Prim.Native.Nat.{ℕ, zero, suc, _≤_}
+use native.Mathlib.Omega.{arith}
 use native.Mathlib.Nat.{le-of-suc-le-suc, not-suc-le-zero}
 use lib.Dec.{eqb}
 use lib.ListN.{length, getD, take}
@@ -30,6 +31,12 @@ module _ {X : Type 0} (eq : X → X → Bool) where
       go : (b : Bool) → sameList eq (table n (λ i. f (suc i))) (table k (λ i. g (suc i))) ≡ false → (b && sameList eq (table n (λ i. f (suc i))) (table k (λ i. g (suc i)))) ≡ false
       go true e = e
       go false e = refl
+
+  pub same-lists : (l k : List X) (d : X) → length l ≡ length k → sameList eq l k ≡ all self (table (length l) (λ i. eq (getD l i d) (getD k i d)))
+  same-lists [] [] d h = refl
+  same-lists [] (y ∷ k) d h = absurd (let z : ⊥ = omega arith in z)
+  same-lists (x ∷ l) [] d h = absurd (let z : ⊥ = omega arith in z)
+  same-lists (x ∷ l) (y ∷ k) d h = ap (λ (b : Bool). eq x y && b) (same-lists l k d (omega arith))
 
 -- the bytes at i are the same
 abbrev pub sameAt : List ℕ → List ℕ → ℕ → Bool

@@ -1,4 +1,4 @@
--- `marking::same_bytes` meets its contract.
+-- `form::same_bytes` meets its contract.
 -- Assumes nothing.
 use mathlib.Core.Path.{_≡_, refl, sym, _∙_}
 use Prim.Native.Nat.{_-_, _≤_}
@@ -6,10 +6,10 @@ use native.Mathlib.Omega.{arith}
 use borrow.Author.Needs.{needs}
 use Rattle.net.proofs.Tables.{all-more}
 use Rattle.net.specs.Tests.{all, table}
-use Rattle.marking.proofs.Same.{sameAt, same-take}
 use Rattle.marking.proofs.Sets.{self}
-use Rattle.marking.proofs.same_bytes.Tie as tie
-use Rattle.marking.proofs.same_bytes.Statement.{statement}
+use Rattle.form.proofs.Same.{sameAt, same-take}
+use Rattle.form.proofs.same_bytes.Tie as tie
+use Rattle.form.proofs.same_bytes.Statement.{statement}
 
 abbrev Inv-loop : tie.InvT-loop
 Inv-loop a b n same₀ i₀ same i = (i ≤ n) × (same ≡ all self (table i (sameAt a b)))
@@ -33,11 +33,16 @@ loop-less : tie.Need-loop-less Inv-loop μ-loop
 loop-less c = search needs
 
 loop-again : tie.Need-loop-again Inv-loop μ-loop
-loop-again c = (search needs, rw (c .before .before .before .loop .inv .1) (sym (all-more self (c .before .before .before .loop .i) (sameAt (c .before .before .before .before .args .a .now) (c .before .before .before .before .args .b .now)))))
+loop-again c =
+    let s = c .before .before .before .before in
+    let at = c .before .before .before in
+    (search needs, rw (at .loop .inv .1) (sym (all-more self (at .loop .i) (sameAt (s .args .a .now) (s .args .b .now)))))
 
 returns : tie.Need-returns Inv-loop μ-loop
-returns c = let e : c .before .loop .i ≡ c .before .before .args .n = omega arith in
-    c .before .loop .inv .1 ∙ rw e (sym (same-take (c .before .before .args .n) (c .before .before .args .a .now) (c .before .before .args .b .now) (c .before .before .pre .0) (c .before .before .pre .1)))
+returns c =
+    let s = c .before .before in
+    let e : c .before .loop .i ≡ s .args .n = omega arith in
+    c .before .loop .inv .1 ∙ rw e (sym (same-take (s .args .n) (s .args .a .now) (s .args .b .now) (s .pre .0) (s .pre .1)))
 
 pub same-bytes-spec : {M : Type 1} → statement M
 same-bytes-spec =

@@ -1,14 +1,15 @@
--- `marking::zero_from` meets its contract.
+-- `form::zero_from` meets its contract.
 -- Assumes nothing.
 use mathlib.Core.Path.{_≡_, refl, sym, _∙_}
 use mathlib.Core.Bool.{_&&_}
-use Prim.Native.Nat.{_-_}
+use Prim.Native.Nat.{ℕ, _-_}
 use lib.ListN.{length}
+use lib.Dec.{eqb}
 use borrow.Author.Needs.{needs}
-use Rattle.marking.proofs.Padding.{zero-turn, zero-end}
 use Rattle.marking.specs.Form.{zeroFrom}
-use Rattle.marking.proofs.zero_from.Tie as tie
-use Rattle.marking.proofs.zero_from.Statement.{statement}
+use Rattle.form.proofs.Zeros.{rest-turn, rest-end}
+use Rattle.form.proofs.zero_from.Tie as tie
+use Rattle.form.proofs.zero_from.Statement.{statement}
 
 abbrev Inv-loop : tie.InvT-loop
 Inv-loop a k zero₀ i₀ zero i = zeroFrom k a ≡ (zero && zeroFrom i a)
@@ -29,10 +30,13 @@ loop-less : tie.Need-loop-less Inv-loop μ-loop
 loop-less c = search needs
 
 loop-again : tie.Need-loop-again Inv-loop μ-loop
-loop-again c = c .before .before .loop .inv ∙ zero-turn (c .before .before .before .args .a .now) (c .before .before .loop .i) (c .before .before .loop .zero) (c .before .loop-test .taken)
+loop-again c = c .before .before .loop .inv
+    ∙ rest-turn (λ (x : ℕ). eqb x 0) (c .before .before .before .args .a .now) (c .before .before .loop .i) 0 (c .before .before .loop .zero)
+    (c .before .loop-test .taken)
 
 returns : tie.Need-returns Inv-loop μ-loop
-returns c = sym (c .before .loop .inv ∙ zero-end (c .before .before .args .a .now) (c .before .loop .i) (c .before .loop .zero) (c .loop-test .left))
+returns c = sym (c .before .loop .inv
+    ∙ rest-end (λ (x : ℕ). eqb x 0) (c .before .before .args .a .now) (c .before .loop .i) (c .before .loop .zero) (c .loop-test .left))
 
 pub zero-from-spec : {M : Type 1} → statement M
 zero-from-spec =
