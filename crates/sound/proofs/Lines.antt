@@ -37,7 +37,7 @@ use Rattle.firings.specs.declared.Firing.{Firing}
 use Rattle.steps.specs.Placed.{Placed}
 use Rattle.steps.proofs.Arcs.{arcs-of, count-of}
 use Rattle.steps.proofs.Readiness.{few-bases, fit}
-use Rattle.enabling.proofs.Readiness.{bonds-fit}
+use Rattle.marking.proofs.Room.{bonds-fit}
 use Rattle.bonds.specs.Ends.{ends}
 
 -- none of 12 to 16 holds exactly where the first is 0

@@ -27,7 +27,7 @@ use Rattle.marking.proofs.Forms.{marking-laid}
 use Rattle.firings.specs.Lines.{past, lineOf, linesIn}
 use Rattle.firings.specs.Form.{usedInForm, unusedInForm, liveKeys, climbs}
 use Rattle.firings.specs.declared.Firing.{Firing}
-use Rattle.enabling.proofs.Readiness.{bonds-fit}
+use Rattle.marking.proofs.Room.{bonds-fit}
 use Rattle.start.specs.Start.{StartFits}
 use Rattle.steps.specs.Placed.{Placed}
 use Rattle.sound.specs.Soundness.{soundIn}

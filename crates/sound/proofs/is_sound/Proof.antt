@@ -23,7 +23,7 @@ use Rattle.firings.proofs.keys_climb.Reads as keys-climb-reads
 use Rattle.firings.proofs.unused_in_form.Reads as unused-in-form-reads
 use Rattle.firings.proofs.used_in_form.Reads as used-in-form-reads
 use Rattle.format.proofs.base_count.Reads as base-count-reads
-use Rattle.marking.proofs.in_form.Reads as in-form-reads
+use Rattle.form.proofs.in_form.Reads as in-form-reads
 use Rattle.sound.proofs.runs_to.Reads as runs-to-reads
 use Rattle.start.proofs.start_marking.Reads as start-marking-reads
 
@@ -32,7 +32,7 @@ gathered : (c : tie.After-keys-climb) → (c .before .before .before .in-form .r
     ≡ (inForm (basesOf (c .before .before .before .before .before .before .before .args .sheet .now)) (c .before .before .before .before .before .before .before .args .m) && (usedInForm (basesOf (c .before .before .before .before .before .before .before .args .sheet .now)) (c .before .before .before .before .before .before .before .args .live) (c .before .before .before .before .before .before .before .args .firings) && (unusedInForm (c .before .before .before .before .before .before .before .args .live) (c .before .before .before .before .before .before .before .args .firings) && climbs 0 (liveKeys (c .before .before .before .before .before .before .before .args .live) (c .before .before .before .before .before .before .before .args .firings)))))
 gathered c =
     let n = c .before .before .before .before .before .base-count .ensures in
-    (λ i. c .before .before .before .in-form .ensures i && (c .before .before .used-in-form .ensures i && (c .before .unused-in-form .ensures i && c .keys-climb .ensures i)))
+    (λ i. c .before .before .before .in-form .ensures .0 i && (c .before .before .used-in-form .ensures i && (c .before .unused-in-form .ensures i && c .keys-climb .ensures i)))
     ∙ (λ i. inForm (n i) (c .before .before .before .before .before .before .before .args .m) && (usedInForm (n i) (c .before .before .before .before .before .before .before .args .live) (c .before .before .before .before .before .before .before .args .firings) && (unusedInForm (c .before .before .before .before .before .before .before .args .live) (c .before .before .before .before .before .before .before .args .firings) && climbs 0 (liveKeys (c .before .before .before .before .before .before .before .args .live) (c .before .before .before .before .before .before .before .args .firings)))))
 
 -- src/lib.rt:73:13

@@ -22,7 +22,7 @@ use Rattle.sound.proofs.runs_to.Tie as tie
 use Rattle.sound.proofs.runs_to.Reads as reads
 use Rattle.sound.proofs.runs_to.Lts as lts
 use Rattle.format.proofs.base_count.Reads as base-count-reads
-use Rattle.marking.proofs.same_marking.Reads as same-marking-reads
+use Rattle.form.proofs.same_marking.Reads as same-marking-reads
 use Rattle.sound.proofs.line_accepted.Reads as line-accepted-reads
 use Rattle.steps.proofs.fired.Reads as fired-reads
 
