@@ -3,4 +3,5 @@ pub mod Lists
 pub mod Rest
 pub mod Same
 pub mod Changes
+pub mod Laid
 pub mod Search

@@ -2,12 +2,13 @@
 -- Definitions only. n is the number of bases; the first k entries are live.
 use mathlib.Core.Bool.{Bool, true, not, _&&_}
 use mathlib.Core.List.{List, [], _∷_}
-use Prim.Native.Nat.{ℕ}
+use mathlib.Core.Path.{_≡_}
+use Prim.Native.Nat.{ℕ, _<_, _≤_}
 use lib.Dec.{eqb, ltb, leb}
 use lib.ListN.{getD, take, drop}
 use Rattle.net.specs.Limits.{maxKey}
 use Rattle.net.specs.Tests.{all, table}
-use Rattle.firings.specs.Lines.{past}
+use Rattle.firings.specs.Lines.{past, lineOf, noFiring, firingOf}
 use Rattle.firings.specs.declared.Firing.{Firing}
 
 -- no flag is set
@@ -25,6 +26,14 @@ usedInForm n k fs = all (λ (f : Firing). unset (drop n (f .moved))) (take k fs)
 -- every entry after the live firings is unused
 abbrev pub unusedInForm : ℕ → List Firing → Bool
 unusedInForm k fs = all isNoFiring (drop k fs)
+
+-- each of the first k is its line as a firing
+abbrev pub AsLines : ℕ → ℕ → List Firing → Type 0
+AsLines n k fs = (i : ℕ) → i < k → getD fs i past ≡ firingOf (lineOf n (getD fs i past))
+
+-- each entry from k to m is unused
+abbrev pub Unused : ℕ → ℕ → List Firing → Type 0
+Unused k m fs = (i : ℕ) → k ≤ i → i < m → getD fs i past ≡ noFiring
 
 abbrev pub liveKeys : ℕ → List Firing → List ℕ
 liveKeys k fs = table k (λ i. getD fs i past .key .0)

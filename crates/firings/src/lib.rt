@@ -1,7 +1,7 @@
 // The live firings of a session record, in an array by value: one taken out, their form, their keys.
 // Entries after the live ones hold 0.
 ghost use mathlib.Core.Path.{_≡_};
-ghost use mathlib.Core.Bool.{Bool, Bool·beq};
+ghost use mathlib.Core.Bool.{Bool, true, Bool·beq};
 ghost use mathlib.Core.List.{[], _∷_};
 ghost use Prim.Native.Nat.{_+_, _<_, _≤_};
 ghost use lib.Dec.{ltb};
@@ -10,7 +10,8 @@ ghost use Rattle.net.specs.Limits.{maxBases, maxLive};
 ghost use Rattle.net.specs.Tests.{pick, sameList};
 ghost use Rattle.firings.specs.Lines.{past, noFiring, closedUp};
 ghost use Rattle.firings.specs.Search.{lastKey, placeOf, builtOnIn};
-ghost use Rattle.firings.specs.Form.{unset, isNoFiring, usedInForm, unusedInForm, liveKeys, climbs};
+ghost use Rattle.firings.specs.Form.{isNoFiring, usedInForm, unusedInForm, AsLines, Unused, liveKeys, climbs};
+use form::clear_from;
 use marking::shares;
 use net::Key;
 use net::MAX_BASES;
@@ -61,39 +62,28 @@ pub fn closed_up(firings: [Firing; MAX_LIVE], live: usize, i: usize) -> [Firing;
     next
 }
 
-// No flag is set from k on.
-pub fn unset_from(flags: [bool; MAX_BASES], k: usize) -> bool
-    ensures { λ r. ⌜ r ≡ unset (drop k flags) ⌝ }
-{
-    let mut ok = true;
-    let mut i = k;
-    while i < MAX_BASES {
-        ok = ok & !flags[i];
-        i += 1;
-    }
-    ok
-}
-
 // Whether an entry is unused.
 pub fn is_no_firing(f: Firing) -> bool
     ensures { λ r. ⌜ r ≡ isNoFiring f ⌝ }
+    ensures { λ r. ⌜ (r ≡ true → f ≡ noFiring) ⌝ }
 {
     let moved = f.moved;
-    let unset = unset_from(moved, 0);
+    let unset = clear_from(0, moved);
     (f.transition == 0) & ((f.key.0 == 0) & unset)
 }
 
-// No flag of a live firing is set from n on. The callers have seen that there are no more than the limit, here and below.
+// No flag of a live firing is set from n on; such a firing is its line as a firing. The callers have seen that there are no more than the limit, here and below.
 pub fn used_in_form(firings: [Firing; MAX_LIVE], live: usize, n: usize) -> bool
     requires { ⌜ live ≤ maxLive ⌝ }
     ensures { λ r. ⌜ r ≡ usedInForm n live firings ⌝ }
+    ensures { λ r. ⌜ (r ≡ true → n ≤ maxBases → AsLines n live firings) ⌝ }
 {
     let mut ok = true;
     let mut i = 0;
     while i < live {
         let f = firings[i];
         let moved = f.moved;
-        ok = ok & unset_from(moved, n);
+        ok = ok & clear_from(n, moved);
         i += 1;
     }
     ok
@@ -102,6 +92,7 @@ pub fn used_in_form(firings: [Firing; MAX_LIVE], live: usize, n: usize) -> bool
 // Every entry after the live firings is unused.
 pub fn unused_in_form(firings: [Firing; MAX_LIVE], live: usize) -> bool
     ensures { λ r. ⌜ r ≡ unusedInForm live firings ⌝ }
+    ensures { λ r. ⌜ (r ≡ true → Unused live maxLive firings) ⌝ }
 {
     let mut ok = true;
     let mut i = live;

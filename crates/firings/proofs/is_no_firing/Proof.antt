@@ -4,19 +4,27 @@ use Prim.Native.Nat.{ℕ, suc, _+_, _-_, _*_, _<_, _≤_}
 use lib.ListN.{length, getD, take, drop, set}
 use mathlib.Core.List.{List, [], _∷_, _++_}
 use borrow.Author.Needs.{needs}
+use mathlib.Core.Bool.{Bool}
+use lib.Dec.{eqb}
+use Rattle.net.proofs.Tests.{and-l, and-r}
+use Rattle.firings.proofs.Laid.{is-none}
 use Rattle.firings.proofs.is_no_firing.Statement.{statement}
 use Rattle.firings.proofs.is_no_firing.Tie as tie
 use Rattle.firings.proofs.is_no_firing.Reads as reads
 use Rattle.firings.proofs.is_no_firing.Lts as lts
-use Rattle.firings.proofs.unset_from.Reads as unset-from-reads
+use Rattle.form.proofs.clear_from.Reads as clear-from-reads
 
--- src/lib.rt:57:9
-unset-from-requires : tie.Need-unset-from-requires
-unset-from-requires c κs = search needs
+-- src/lib.rt:71:9
+clear-from-requires : tie.Need-clear-from-requires
+clear-from-requires c κs = search needs
 
--- src/lib.rt:53:1
+-- src/lib.rt:66:1
 returns : tie.Need-returns
-returns c = rw (c .before .before .unset-from .ensures)
+returns c =
+    let f = c .before .before .before .before .args .f in
+    let b : Bool = c .before .before .clear-from .result in
+    (rw (c .before .before .clear-from .ensures .0),
+    λ h. is-none f (and-l _ _ h) (and-l _ b (and-r (eqb (f .transition) 0) _ h)) (c .before .before .clear-from .ensures .1 (and-r (eqb (f .key .0) 0) b (and-r (eqb (f .transition) 0) _ h)) (omega arith)))
 
 pub is-no-firing-spec : {M : Type 1} → statement M
-is-no-firing-spec = tie.close (tie.spec unset-from-requires returns)
+is-no-firing-spec = tie.close (tie.spec clear-from-requires returns)

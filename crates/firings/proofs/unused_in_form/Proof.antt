@@ -4,11 +4,13 @@ use mathlib.Core.Path.{_≡_, refl, ap, sym, _∙_}
 use Prim.Native.Nat.{ℕ, suc, _+_, _-_, _*_, _<_, _≤_}
 use lib.ListN.{length, getD, take, drop, set}
 use mathlib.Core.List.{List, [], _∷_, _++_}
-use mathlib.Core.Bool.{Bool, _&&_}
+use mathlib.Core.Bool.{Bool, true, _&&_}
 use Rattle.net.specs.Limits.{maxLive}
+use Rattle.net.proofs.Tests.{and-l, and-r}
 use Rattle.firings.specs.Lines.{past}
-use Rattle.firings.specs.Form.{isNoFiring, unusedInForm}
+use Rattle.firings.specs.Form.{isNoFiring, unusedInForm, Unused}
 use Rattle.firings.proofs.Rest.{rest-turn, rest-end}
+use Rattle.firings.proofs.Laid.{unused-more}
 use Rattle.firings.proofs.unused_in_form.Statement.{statement}
 use Rattle.firings.proofs.unused_in_form.Tie as tie
 use Rattle.firings.proofs.unused_in_form.Reads as reads
@@ -16,46 +18,50 @@ use Rattle.firings.proofs.unused_in_form.Lts as lts
 use Rattle.firings.proofs.is_no_firing.Reads as is-no-firing-reads
 
 abbrev Inv-loop : tie.InvT-loop
-Inv-loop live firings ok₀ i₀ ok i = (length firings ≡ maxLive) × (unusedInForm live firings ≡ (ok && unusedInForm i firings))
+Inv-loop live firings ok₀ i₀ ok i =
+    (length firings ≡ maxLive) × (unusedInForm live firings ≡ (ok && unusedInForm i firings)) × (live ≤ i) × (ok ≡ true → Unused live i firings)
 
 abbrev μ-loop : tie.MeasureT-loop
 μ-loop live firings ok₀ i₀ ok i = maxLive - i
 
--- src/lib.rt:104:5
+-- src/lib.rt:99:5
 loop-holds : tie.Need-loop-holds Inv-loop μ-loop
-loop-holds c = (search needs, refl)
+loop-holds c = (search needs, refl, search needs, λ h j a k. absurd (let z : ⊥ = omega arith in z))
 
--- src/lib.rt:105:17
+-- src/lib.rt:100:17
 mul-f : tie.Need-mul-f Inv-loop μ-loop
 mul-f c = search needs
 
--- src/lib.rt:105:17
+-- src/lib.rt:100:17
 array-copy-out-f : tie.Need-array-copy-out-f Inv-loop μ-loop
 array-copy-out-f c = search needs
 
--- src/lib.rt:106:19
+-- src/lib.rt:101:19
 is-no-firing-requires : tie.Need-is-no-firing-requires Inv-loop μ-loop
 is-no-firing-requires c κs = search needs
 
--- src/lib.rt:107:9
+-- src/lib.rt:102:9
 add-i : tie.Need-add-i Inv-loop μ-loop
 add-i c = search needs
 
--- src/lib.rt:104:5
+-- src/lib.rt:99:5
 loop-less : tie.Need-loop-less Inv-loop μ-loop
 loop-less c = search needs
 
--- src/lib.rt:104:5
+-- src/lib.rt:99:5
 loop-again : tie.Need-loop-again Inv-loop μ-loop
 loop-again c =
-    let at : tie.At-loop Inv-loop μ-loop = c .before .before .before in (
-      search needs,
-      rest-turn isNoFiring (at .before .args .t1) past (at .loop .i) _ (at .loop .ok) (omega arith) (at .loop .inv .1) ∙ ap (λ (b : Bool). (at .loop .ok && b) && unusedInForm (at .loop .i + 1) (at .before .args .t1)) (sym (c .is-no-firing .ensures)),
-    )
+    let at : tie.At-loop Inv-loop μ-loop = c .before .before .before in
+    (search needs,
+    rest-turn isNoFiring (at .before .args .t1) past (at .loop .i) _ (at .loop .ok) (omega arith) (at .loop .inv .1) ∙ ap (λ (b : Bool). (at .loop .ok && b) && unusedInForm (at .loop .i + 1) (at .before .args .t1)) (sym (c .is-no-firing .ensures .0)),
+    search needs,
+    λ h. unused-more (at .before .args .live) (at .loop .i) (at .before .args .t1) (at .loop .inv .3 (and-l (at .loop .ok) _ h)) (c .is-no-firing .ensures .1 (and-r (at .loop .ok) _ h)))
 
--- src/lib.rt:99:1
+-- src/lib.rt:93:1
 returns : tie.Need-returns Inv-loop μ-loop
-returns c = rest-end isNoFiring (c .before .before .args .t1) (c .before .loop .i) _ _ (omega arith) (c .before .loop .inv .1)
+returns c =
+    (rest-end isNoFiring (c .before .before .args .t1) (c .before .loop .i) _ _ (omega arith) (c .before .loop .inv .1),
+    λ h j a k. c .before .loop .inv .3 h j a (omega arith))
 
 pub unused-in-form-spec : {M : Type 1} → statement M
 unused-in-form-spec =

@@ -4,63 +4,67 @@ use mathlib.Core.Path.{_≡_, refl, ap, sym, _∙_}
 use Prim.Native.Nat.{ℕ, suc, _+_, _-_, _*_, _<_, _≤_}
 use lib.ListN.{length, getD, take, drop, set}
 use mathlib.Core.List.{List, [], _∷_, _++_}
-use mathlib.Core.Bool.{Bool, _&&_}
-use Rattle.net.specs.Limits.{maxLive}
+use mathlib.Core.Bool.{Bool, true, _&&_}
+use native.Mathlib.Nat.{not-suc-le-zero}
+use Rattle.net.specs.Limits.{maxBases, maxLive}
+use Rattle.net.proofs.Tests.{and-l, and-r}
 use Rattle.firings.specs.Lines.{past}
-use Rattle.firings.specs.Form.{unset, usedInForm}
+use Rattle.firings.specs.Form.{unset, usedInForm, AsLines}
 use Rattle.firings.specs.declared.Firing.{Firing}
 use Rattle.firings.proofs.Rest.{taken-turn}
+use Rattle.firings.proofs.Laid.{as-line, as-lines-more}
 use Rattle.firings.proofs.used_in_form.Statement.{statement}
 use Rattle.firings.proofs.used_in_form.Tie as tie
 use Rattle.firings.proofs.used_in_form.Reads as reads
 use Rattle.firings.proofs.used_in_form.Lts as lts
-use Rattle.firings.proofs.unset_from.Reads as unset-from-reads
+use Rattle.form.proofs.clear_from.Reads as clear-from-reads
 
 abbrev Inv-loop : tie.InvT-loop
-Inv-loop live n firings ok₀ i₀ ok i = (i ≤ live) × (live ≤ maxLive) × (length firings ≡ maxLive) × (ok ≡ usedInForm n i firings)
+Inv-loop live n firings ok₀ i₀ ok i =
+    (i ≤ live) × (live ≤ maxLive) × (length firings ≡ maxLive) × (ok ≡ usedInForm n i firings) × (ok ≡ true → n ≤ maxBases → AsLines n i firings)
 
 abbrev μ-loop : tie.MeasureT-loop
 μ-loop live n firings ok₀ i₀ ok i = live - i
 
--- src/lib.rt:89:5
+-- src/lib.rt:83:5
 loop-holds : tie.Need-loop-holds Inv-loop μ-loop
-loop-holds c = (search needs, search needs, search needs, refl)
+loop-holds c = (search needs, search needs, search needs, refl, λ h e j k. absurd (not-suc-le-zero k))
 
--- src/lib.rt:90:17
+-- src/lib.rt:84:17
 mul-f : tie.Need-mul-f Inv-loop μ-loop
 mul-f c = search needs
 
--- src/lib.rt:90:17
+-- src/lib.rt:84:17
 array-copy-out-f : tie.Need-array-copy-out-f Inv-loop μ-loop
 array-copy-out-f c = search needs
 
--- src/lib.rt:92:19
-unset-from-requires : tie.Need-unset-from-requires Inv-loop μ-loop
-unset-from-requires c κs = search needs
+-- src/lib.rt:86:19
+clear-from-requires : tie.Need-clear-from-requires Inv-loop μ-loop
+clear-from-requires c κs = search needs
 
--- src/lib.rt:93:9
+-- src/lib.rt:87:9
 add-i : tie.Need-add-i Inv-loop μ-loop
 add-i c = search needs
 
--- src/lib.rt:89:5
+-- src/lib.rt:83:5
 loop-less : tie.Need-loop-less Inv-loop μ-loop
 loop-less c = search needs
 
--- src/lib.rt:89:5
+-- src/lib.rt:83:5
 loop-again : tie.Need-loop-again Inv-loop μ-loop
 loop-again c =
-    let at : tie.At-loop Inv-loop μ-loop = c .before .before .before .before in (
-      search needs,
-      search needs,
-      search needs,
-      ap (λ (b : Bool). at .loop .ok && b) (c .unset-from .ensures) ∙ taken-turn (λ (f : Firing). unset (drop (at .before .args .n) (f .moved))) (at .before .args .t1) past (at .loop .i) (at .loop .ok) (omega arith) (at .loop .inv .3),
-    )
+    let at : tie.At-loop Inv-loop μ-loop = c .before .before .before .before in
+    (search needs, search needs, search needs,
+    ap (λ (b : Bool). at .loop .ok && b) (c .clear-from .ensures .0) ∙ taken-turn (λ (f : Firing). unset (drop (at .before .args .n) (f .moved))) (at .before .args .t1) past (at .loop .i) (at .loop .ok) (omega arith) (at .loop .inv .3),
+    λ h e. as-lines-more (at .before .args .n) (at .loop .i) (at .before .args .t1) (at .loop .inv .4 (and-l (at .loop .ok) _ h) e)
+    (as-line (at .before .args .n) (getD (at .before .args .t1) (at .loop .i) past) (c .clear-from .ensures .1 (and-r (at .loop .ok) _ h) e)))
 
--- src/lib.rt:83:1
+-- src/lib.rt:76:1
 returns : tie.Need-returns Inv-loop μ-loop
 returns c =
     let all-read : c .before .loop .i ≡ c .before .before .args .live = omega arith in
-    c .before .loop .inv .3 ∙ ap (λ (k : ℕ). usedInForm (c .before .before .args .n) k (c .before .before .args .t1)) all-read
+    (c .before .loop .inv .3 ∙ ap (λ (k : ℕ). usedInForm (c .before .before .args .n) k (c .before .before .args .t1)) all-read,
+    λ h e. rw (← all-read) (c .before .loop .inv .4 h e))
 
 pub used-in-form-spec : {M : Type 1} → statement M
 used-in-form-spec =
@@ -71,7 +75,7 @@ used-in-form-spec =
     loop-holds
     mul-f
     array-copy-out-f
-    unset-from-requires
+    clear-from-requires
     add-i
     loop-less
     loop-again
