@@ -5,7 +5,7 @@ ghost use mathlib.Core.Bool.{Bool, true, Bool·beq};
 ghost use mathlib.Core.List.{[], _∷_};
 ghost use Prim.Native.Nat.{_+_, _<_, _≤_};
 ghost use lib.Dec.{ltb};
-ghost use lib.ListN.{drop, take, getD};
+ghost use lib.ListN.{drop, take, getD, length};
 ghost use Rattle.net.specs.Limits.{maxBases, maxLive};
 ghost use Rattle.net.specs.Tests.{pick, sameList};
 ghost use Rattle.firings.specs.Lines.{past, noFiring, closedUp};
@@ -92,7 +92,7 @@ pub fn used_in_form(firings: [Firing; MAX_LIVE], live: usize, n: usize) -> bool
 // Every entry after the live firings is unused.
 pub fn unused_in_form(firings: [Firing; MAX_LIVE], live: usize) -> bool
     ensures { λ r. ⌜ r ≡ unusedInForm live firings ⌝ }
-    ensures { λ r. ⌜ (r ≡ true → Unused live maxLive firings) ⌝ }
+    ensures { λ r. ⌜ (r ≡ true → Unused live maxLive firings) × (length firings ≡ maxLive) ⌝ }
 {
     let mut ok = true;
     let mut i = live;

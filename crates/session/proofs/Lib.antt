@@ -2,10 +2,10 @@
 pub mod Decoding
 pub mod Performing
 pub mod Forms
-pub mod Sized
 pub mod Sounds
 pub mod Places
 pub mod Fits
 pub mod Fires
 pub mod Undoes
 pub mod Steps
+pub mod Answering

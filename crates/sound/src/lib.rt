@@ -12,7 +12,7 @@ ghost use Rattle.sheet.specs.Checks.{sheetChecks};
 ghost use Rattle.marking.specs.Form.{markingOf};
 ghost use Rattle.firings.specs.Lines.{lineOf, linesIn};
 ghost use Rattle.steps.specs.Placed.{Placed};
-ghost use Rattle.sound.specs.Soundness.{soundIn};
+ghost use Rattle.sound.specs.Soundness.{soundIn, LaidOut};
 use firings::Firing;
 use firings::keys_climb;
 use firings::same_flags;
@@ -65,10 +65,12 @@ fn runs_to(sheet: &[u8], m: Marking, firings: [Firing; MAX_LIVE], live: usize, e
     same_marking(n, now_at, end)
 }
 
-// Whether what a record holds is sound for the sheet. Callers have checked the sheet.
+// Whether what a record holds is sound for the sheet; where it is, its arrays are laid out as what it holds is.
+// Callers have checked the sheet.
 pub fn is_sound(sheet: &[u8], m: Marking, firings: [Firing; MAX_LIVE], live: usize) -> bool
     requires { ⌜ clear (sheetChecks (now sheet)) ≡ true ⌝ }
     ensures { λ r. ⌜ r ≡ soundIn (now (sheet .entry)) m live firings ⌝ }
+    ensures { λ r. ⌜ (r ≡ true → LaidOut (basesOf (now (sheet .entry))) m live firings) ⌝ }
 {
     let n = base_count(sheet) as usize;
     if MAX_LIVE < live {

@@ -61,7 +61,7 @@ loop-again c =
 returns : tie.Need-returns Inv-loop μ-loop
 returns c =
     (rest-end isNoFiring (c .before .before .args .t1) (c .before .loop .i) _ _ (omega arith) (c .before .loop .inv .1),
-    λ h j a k. c .before .loop .inv .3 h j a (omega arith))
+    ((λ h j a k. c .before .loop .inv .3 h j a (omega arith)), c .before .loop .inv .0))
 
 pub unused-in-form-spec : {M : Type 1} → statement M
 unused-in-form-spec =

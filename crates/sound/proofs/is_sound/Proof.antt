@@ -3,10 +3,14 @@ use mathlib.Core.Path.{_≡_, refl, ap, sym, _∙_}
 use Prim.Native.Nat.{ℕ, suc, _+_, _-_, _*_, _<_, _≤_}
 use lib.ListN.{length, getD, take, drop, set}
 use mathlib.Core.List.{List, [], _∷_, _++_}
-use mathlib.Core.Bool.{_&&_}
+use mathlib.Core.Bool.{false, _&&_}
+use Rattle.causal.proofs.Tests.{both}
+use Rattle.sheet.proofs.Accepted.{promised}
+use Rattle.firings.proofs.Laid.{firings-laid}
+use Rattle.sound.specs.Soundness.{soundIn}
 use borrow.Author.Tests.{not-true, not-false, leb-true}
 use Rattle.net.specs.History.{replays}
-use Rattle.net.proofs.Tests.{and-l}
+use Rattle.net.proofs.Tests.{and-l, and-r}
 use Rattle.format.specs.Parts.{basesOf}
 use Rattle.format.specs.NetOf.{netOf}
 use Rattle.marking.specs.Form.{markingOf, inForm}
@@ -32,8 +36,17 @@ gathered : (c : tie.After-keys-climb) → (c .before .before .before .in-form .r
     ≡ (inForm (basesOf (c .before .before .before .before .before .before .before .args .sheet .now)) (c .before .before .before .before .before .before .before .args .m) && (usedInForm (basesOf (c .before .before .before .before .before .before .before .args .sheet .now)) (c .before .before .before .before .before .before .before .args .live) (c .before .before .before .before .before .before .before .args .firings) && (unusedInForm (c .before .before .before .before .before .before .before .args .live) (c .before .before .before .before .before .before .before .args .firings) && climbs 0 (liveKeys (c .before .before .before .before .before .before .before .args .live) (c .before .before .before .before .before .before .before .args .firings)))))
 gathered c =
     let n = c .before .before .before .before .before .base-count .ensures in
-    (λ i. c .before .before .before .in-form .ensures .0 i && (c .before .before .used-in-form .ensures i && (c .before .unused-in-form .ensures i && c .keys-climb .ensures i)))
+    (λ i. c .before .before .before .in-form .ensures .0 i && (c .before .before .used-in-form .ensures .0 i && (c .before .unused-in-form .ensures .0 i && c .keys-climb .ensures i)))
     ∙ (λ i. inForm (n i) (c .before .before .before .before .before .before .before .args .m) && (usedInForm (n i) (c .before .before .before .before .before .before .before .args .live) (c .before .before .before .before .before .before .before .args .firings) && (unusedInForm (c .before .before .before .before .before .before .before .args .live) (c .before .before .before .before .before .before .before .args .firings) && climbs 0 (liveKeys (c .before .before .before .before .before .before .before .args .live) (c .before .before .before .before .before .before .before .args .firings)))))
+
+-- what the run says, where the four tests pass
+sound-is : (c : tie.After-runs-to) → c .runs-to .result ≡ soundIn (c .before .before .before .before .before .before .before .before .before .before .args .sheet .now) (c .before .before .before .before .before .before .before .before .before .before .args .m) (c .before .before .before .before .before .before .before .before .before .before .args .live) (c .before .before .before .before .before .before .before .before .before .before .args .firings)
+sound-is c =
+    let s : List ℕ = c .before .before .before .before .before .before .before .before .before .before .args .sheet .now in
+    let ls = linesIn (basesOf s) (c .before .before .before .before .before .before .before .before .before .before .args .live) (c .before .before .before .before .before .before .before .before .before .before .args .firings) in
+    let z = markingOf (basesOf s) (c .before .before .before .before .before .before .before .before .before .before .args .m) in
+    c .runs-to .ensures ∙ ap (λ (m : Marking). replays (netOf s) (markingOf (basesOf s) m) ls z) (c .before .start-marking .ensures) ∙ from-start s (c .before .before .before .before .before .before .before .before .before .before .pre) ls z
+    ∙ by-run (c .before .before .before .before .before .before .before .before .before .before .args .sheet .now) (c .before .before .before .before .before .before .before .before .before .before .args .m) (c .before .before .before .before .before .before .before .before .before .before .args .live) (c .before .before .before .before .before .before .before .before .before .before .args .firings) (c .before .before .before .before .before .before .before .if1 .left) (sym (gathered (c .before .before .before)) ∙ not-false _ (c .before .before .if2 .left))
 
 -- src/lib.rt:73:13
 base-count-requires : tie.Need-base-count-requires
@@ -45,7 +58,10 @@ cast-n c = search needs
 
 -- src/lib.rt:75:9
 returns : tie.Need-returns
-returns c = too-many (c .before .before .before .args .sheet .now) (c .before .before .before .args .m) (c .before .before .before .args .live) (c .before .before .before .args .firings) (c .if1 .taken)
+returns c = (
+      too-many (c .before .before .before .args .sheet .now) (c .before .before .before .args .m) (c .before .before .before .args .live) (c .before .before .before .args .firings) (c .if1 .taken),
+      λ h. both false h refl,
+    )
 
 -- src/lib.rt:77:9
 in-form-requires : tie.Need-in-form-requires
@@ -65,7 +81,10 @@ keys-climb-requires c κs = search needs
 
 -- src/lib.rt:82:9
 returns-2 : tie.Need-returns-2
-returns-2 c = unsound (c .before .before .before .before .before .before .before .before .args .sheet .now) (c .before .before .before .before .before .before .before .before .args .m) (c .before .before .before .before .before .before .before .before .args .live) (c .before .before .before .before .before .before .before .before .args .firings) (c .before .before .before .before .before .if1 .left) (sym (gathered (c .before)) ∙ not-true _ (c .if2 .taken))
+returns-2 c = (
+      unsound (c .before .before .before .before .before .before .before .before .args .sheet .now) (c .before .before .before .before .before .before .before .before .args .m) (c .before .before .before .before .before .before .before .before .args .live) (c .before .before .before .before .before .before .before .before .args .firings) (c .before .before .before .before .before .if1 .left) (sym (gathered (c .before)) ∙ not-true _ (c .if2 .taken)),
+      λ h. both false h refl,
+    )
 
 -- src/lib.rt:84:9
 start-marking-requires : tie.Need-start-marking-requires
@@ -81,10 +100,17 @@ runs-to-requires c κs =
 returns-3 : tie.Need-returns-3
 returns-3 c =
     let s : List ℕ = c .before .before .before .before .before .before .before .before .before .before .args .sheet .now in
-    let ls = linesIn (basesOf s) (c .before .before .before .before .before .before .before .before .before .before .args .live) (c .before .before .before .before .before .before .before .before .before .before .args .firings) in
-    let z = markingOf (basesOf s) (c .before .before .before .before .before .before .before .before .before .before .args .m) in
-    c .runs-to .ensures ∙ ap (λ (m : Marking). replays (netOf s) (markingOf (basesOf s) m) ls z) (c .before .start-marking .ensures) ∙ from-start s (c .before .before .before .before .before .before .before .before .before .before .pre) ls z
-    ∙ by-run (c .before .before .before .before .before .before .before .before .before .before .args .sheet .now) (c .before .before .before .before .before .before .before .before .before .before .args .m) (c .before .before .before .before .before .before .before .before .before .before .args .live) (c .before .before .before .before .before .before .before .before .before .before .args .firings) (c .before .before .before .before .before .before .before .if1 .left) (sym (gathered (c .before .before .before)) ∙ not-false _ (c .before .before .if2 .left))
+    let k = c .before .before .before in
+    let passed = sym (gathered k) ∙ not-false _ (c .before .before .if2 .left) in
+    let few = promised s (c .before .before .before .before .before .before .before .before .before .before .pre) .bases .1 in
+    let n = k .before .before .before .before .before .base-count .ensures in
+    let u = k .before .before .used-in-form .result in
+    let test = not-false _ (c .before .before .if2 .left) in
+    let tu = and-r (k .before .before .before .in-form .result) _ test in
+    let laid-m = k .before .before .before .in-form .ensures .1 (and-l _ _ test) (rw n few) in
+    let used = k .before .before .used-in-form .ensures .1 (and-l _ _ tu) (rw n few) in
+    let unused = k .before .unused-in-form .ensures .1 .0 (and-l _ _ (and-r u _ tu)) in
+    (sound-is c, λ _. (rw (← n) laid-m, rw (← n) (firings-laid (k .before .before .before .before .before .base-count .result) (c .before .before .before .before .before .before .before .before .before .before .args .live) (c .before .before .before .before .before .before .before .before .before .before .args .firings) (k .before .unused-in-form .ensures .1 .1) (c .before .before .before .before .before .before .before .if1 .left) used unused)))
 
 pub is-sound-spec : {M : Type 1} → statement M
 is-sound-spec =

@@ -3,6 +3,8 @@ use mathlib.Core.Path.{_≡_, refl, ap, sym, _∙_}
 use Prim.Native.Nat.{ℕ, suc, _+_, _-_, _*_, _<_, _≤_}
 use lib.ListN.{length, getD, take, drop, set}
 use mathlib.Core.List.{List, [], _∷_, _++_}
+use Rattle.session.proofs.Sounds.{placed, live-few}
+use Rattle.session.proofs.Undoes.{dead, built, listed, done}
 use borrow.Author.Needs.{needs}
 use Rattle.session.proofs.Record.undo.Statement.{statement}
 use Rattle.session.proofs.Record.undo.Tie as tie
@@ -16,7 +18,7 @@ use Rattle.steps.proofs.undone.Reads as undone-reads
 
 -- src/lib.rt:171:13
 place-of-requires : tie.Need-place-of-requires
-place-of-requires c κs = search needs
+place-of-requires c κs = live-few (c .before .before .before .args .sheet .now) (c .before .before .before .args .self) (c .before .before .before .pre)
 
 -- src/lib.rt:173:13
 refused-requires : tie.Need-refused-requires
@@ -24,11 +26,11 @@ refused-requires c κs = search needs
 
 -- src/lib.rt:173:13
 returns : tie.Need-returns
-returns c = search needs
+returns c = c .refused .ensures ∙ dead (c .before .before .before .before .before .before .args .sheet .now) (c .before .before .before .before .before .before .args .self) (c .before .before .before .before .before .before .args .key) (c .before .before .before .before .before .before .pre) _ (c .before .before .place-of .ensures) (c .before .if1 .taken)
 
 -- src/lib.rt:175:12
 built-on-requires : tie.Need-built-on-requires
-built-on-requires c κs = search needs
+built-on-requires c κs = (c .if1 .left, live-few (c .before .before .before .before .before .args .sheet .now) (c .before .before .before .before .before .args .self) (c .before .before .before .before .before .pre))
 
 -- src/lib.rt:176:13
 refused-requires-2 : tie.Need-refused-requires-2
@@ -36,15 +38,15 @@ refused-requires-2 c κs = search needs
 
 -- src/lib.rt:176:13
 returns-2 : tie.Need-returns-2
-returns-2 c = search needs
+returns-2 c = c .refused2 .ensures ∙ built (c .before .before .before .before .before .before .before .before .args .sheet .now) (c .before .before .before .before .before .before .before .before .args .self) (c .before .before .before .before .before .before .before .before .args .key) (c .before .before .before .before .before .before .before .before .pre) _ (c .before .before .before .before .place-of .ensures) (c .before .before .before .if1 .left) (sym (c .before .before .built-on .ensures) ∙ c .before .if2 .taken)
 
 -- src/lib.rt:178:17
 mul-f : tie.Need-mul-f
-mul-f c = search needs
+mul-f c = let h = c .before .before .if1 .left in let k = live-few (c .before .before .before .before .before .before .before .args .sheet .now) (c .before .before .before .before .before .before .before .args .self) (c .before .before .before .before .before .before .before .pre) in search needs
 
 -- src/lib.rt:178:17
 array-copy-out-f : tie.Need-array-copy-out-f
-array-copy-out-f c = search needs
+array-copy-out-f c = let h = c .before .before .if1 .left in let k = live-few (c .before .before .before .before .before .before .before .args .sheet .now) (c .before .before .before .before .before .before .before .args .self) (c .before .before .before .before .before .before .before .pre) in omega arith
 
 -- src/lib.rt:180:50
 cast-t19 : tie.Need-cast-t19
@@ -52,11 +54,11 @@ cast-t19 c = search needs
 
 -- src/lib.rt:180:13
 undone-requires : tie.Need-undone-requires
-undone-requires c κs = search needs
+undone-requires c κs = (placed (c .before .before .before .before .before .before .before .before .before .before .args .sheet .now) (c .before .before .before .before .before .before .before .before .before .before .args .self) (c .before .before .before .before .before .before .before .before .before .before .pre), listed (c .before .before .before .before .before .before .before .before .before .before .args .sheet .now) (c .before .before .before .before .before .before .before .before .before .before .args .self) (c .before .before .before .before .before .before .before .before .before .before .args .key) (c .before .before .before .before .before .before .before .before .before .before .pre) _ (c .before .before .before .before .before .before .place-of .ensures) (c .before .before .before .before .before .if1 .left))
 
 -- src/lib.rt:181:13
 closed-up-requires : tie.Need-closed-up-requires
-closed-up-requires c κs = search needs
+closed-up-requires c κs = (c .before .before .before .before .before .before .if1 .left, live-few (c .before .before .before .before .before .before .before .before .before .before .before .args .sheet .now) (c .before .before .before .before .before .before .before .before .before .before .before .args .self) (c .before .before .before .before .before .before .before .before .before .before .before .pre))
 
 -- src/lib.rt:187:23
 sub-t15 : tie.Need-sub-t15
@@ -64,7 +66,7 @@ sub-t15 c = search needs
 
 -- src/lib.rt:164:5
 returns-3 : tie.Need-returns-3
-returns-3 c = search needs
+returns-3 c = done (c .before .before .before .before .before .before .before .before .before .before .before .before .args .sheet .now) (c .before .before .before .before .before .before .before .before .before .before .before .before .args .self) (c .before .before .before .before .before .before .before .before .before .before .before .before .args .key) (c .before .before .before .before .before .before .before .before .before .before .before .before .pre) _ (c .before .before .before .before .before .before .before .before .place-of .ensures) (c .before .before .before .before .before .before .before .if1 .left) (sym (c .before .before .before .before .before .before .built-on .ensures) ∙ c .before .before .before .before .before .if2 .left) _ _ (c .before .undone .ensures) (c .closed-up .ensures)
 
 pub undo-spec : {M : Type 1} → statement M
 undo-spec =
