@@ -41,3 +41,18 @@ perform-decoded s r c = go (cutShort c) (unreadable c) (eqb (kindOf c) 1) (eqb (
     go false false true two = refl
     go false false false true = refl
     go false false false false = refl
+
+-- ---- one law for each return of the inner command
+
+module _ (s : List ℕ) (r : Record) (c : List ℕ) where
+  pub cut : cutShort c ≡ true → refusal r 21 ≡ performOf s r c
+  cut h = sym (perform-decoded s r c ∙ ap (λ (b : Bool). pick b (refusal r 21) (byDecoded s r (decodedOf c))) h)
+
+  whole : cutShort c ≡ false → byDecoded s r (decodedOf c) ≡ performOf s r c
+  whole h = sym (perform-decoded s r c ∙ ap (λ (b : Bool). pick b (refusal r 21) (byDecoded s r (decodedOf c))) h)
+
+  pub unread : cutShort c ≡ false → (d : Decoded) → d ≡ Unreadable → d ≡ decodedOf c → refusal r 11 ≡ performOf s r c
+  unread h d e q = ap (byDecoded s r) (sym e ∙ q) ∙ whole h
+
+  pub given : cutShort c ≡ false → (d : Decoded) (x y : Command) → d ≡ Given x → d ≡ decodedOf c → x ≡ y → commanded s r y ≡ performOf s r c
+  given h d x y e q k = ap (commanded s r) (sym k) ∙ ap (byDecoded s r) (sym e ∙ q) ∙ whole h

@@ -22,9 +22,10 @@ clear-from-requires c κs = search needs
 returns : tie.Need-returns
 returns c =
     let f = c .before .before .before .before .args .f in
-    let b : Bool = c .before .before .clear-from .result in
-    (rw (c .before .before .clear-from .ensures .0),
-    λ h. is-none f (and-l _ _ h) (and-l _ b (and-r (eqb (f .transition) 0) _ h)) (c .before .before .clear-from .ensures .1 (and-r (eqb (f .key .0) 0) b (and-r (eqb (f .transition) 0) _ h)) (omega arith)))
+    let b : Bool = c .before .before .clear-from .result in (
+      rw (c .before .before .clear-from .ensures .0),
+      λ h. is-none f (and-l _ _ h) (and-l _ b (and-r (eqb (f .transition) 0) _ h)) (c .before .before .clear-from .ensures .1 (and-r (eqb (f .key .0) 0) b (and-r (eqb (f .transition) 0) _ h)) (omega arith)),
+    )
 
 pub is-no-firing-spec : {M : Type 1} → statement M
 is-no-firing-spec = tie.close (tie.spec clear-from-requires returns)

@@ -51,17 +51,19 @@ loop-less c = search needs
 -- src/lib.rt:99:5
 loop-again : tie.Need-loop-again Inv-loop μ-loop
 loop-again c =
-    let at : tie.At-loop Inv-loop μ-loop = c .before .before .before in
-    (search needs,
-    rest-turn isNoFiring (at .before .args .t1) past (at .loop .i) _ (at .loop .ok) (omega arith) (at .loop .inv .1) ∙ ap (λ (b : Bool). (at .loop .ok && b) && unusedInForm (at .loop .i + 1) (at .before .args .t1)) (sym (c .is-no-firing .ensures .0)),
-    search needs,
-    λ h. unused-more (at .before .args .live) (at .loop .i) (at .before .args .t1) (at .loop .inv .3 (and-l (at .loop .ok) _ h)) (c .is-no-firing .ensures .1 (and-r (at .loop .ok) _ h)))
+    let at : tie.At-loop Inv-loop μ-loop = c .before .before .before in (
+      search needs,
+      rest-turn isNoFiring (at .before .args .t1) past (at .loop .i) _ (at .loop .ok) (omega arith) (at .loop .inv .1) ∙ ap (λ (b : Bool). (at .loop .ok && b) && unusedInForm (at .loop .i + 1) (at .before .args .t1)) (sym (c .is-no-firing .ensures .0)),
+      search needs,
+      λ h. unused-more (at .before .args .live) (at .loop .i) (at .before .args .t1) (at .loop .inv .3 (and-l (at .loop .ok) _ h)) (c .is-no-firing .ensures .1 (and-r (at .loop .ok) _ h)),
+    )
 
 -- src/lib.rt:93:1
 returns : tie.Need-returns Inv-loop μ-loop
-returns c =
-    (rest-end isNoFiring (c .before .before .args .t1) (c .before .loop .i) _ _ (omega arith) (c .before .loop .inv .1),
-    ((λ h j a k. c .before .loop .inv .3 h j a (omega arith)), c .before .loop .inv .0))
+returns c = (
+  rest-end isNoFiring (c .before .before .args .t1) (c .before .loop .i) _ _ (omega arith) (c .before .loop .inv .1),
+  ((λ h j a k. c .before .loop .inv .3 h j a (omega arith)), c .before .loop .inv .0),
+)
 
 pub unused-in-form-spec : {M : Type 1} → statement M
 unused-in-form-spec =

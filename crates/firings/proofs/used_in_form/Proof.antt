@@ -53,18 +53,22 @@ loop-less c = search needs
 -- src/lib.rt:83:5
 loop-again : tie.Need-loop-again Inv-loop μ-loop
 loop-again c =
-    let at : tie.At-loop Inv-loop μ-loop = c .before .before .before .before in
-    (search needs, search needs, search needs,
-    ap (λ (b : Bool). at .loop .ok && b) (c .clear-from .ensures .0) ∙ taken-turn (λ (f : Firing). unset (drop (at .before .args .n) (f .moved))) (at .before .args .t1) past (at .loop .i) (at .loop .ok) (omega arith) (at .loop .inv .3),
-    λ h e. as-lines-more (at .before .args .n) (at .loop .i) (at .before .args .t1) (at .loop .inv .4 (and-l (at .loop .ok) _ h) e)
-    (as-line (at .before .args .n) (getD (at .before .args .t1) (at .loop .i) past) (c .clear-from .ensures .1 (and-r (at .loop .ok) _ h) e)))
+    let at : tie.At-loop Inv-loop μ-loop = c .before .before .before .before in (
+      search needs,
+      search needs,
+      search needs,
+      ap (λ (b : Bool). at .loop .ok && b) (c .clear-from .ensures .0) ∙ taken-turn (λ (f : Firing). unset (drop (at .before .args .n) (f .moved))) (at .before .args .t1) past (at .loop .i) (at .loop .ok) (omega arith) (at .loop .inv .3),
+      λ h e. as-lines-more (at .before .args .n) (at .loop .i) (at .before .args .t1) (at .loop .inv .4 (and-l (at .loop .ok) _ h) e)
+          (as-line (at .before .args .n) (getD (at .before .args .t1) (at .loop .i) past) (c .clear-from .ensures .1 (and-r (at .loop .ok) _ h) e)),
+    )
 
 -- src/lib.rt:76:1
 returns : tie.Need-returns Inv-loop μ-loop
 returns c =
-    let all-read : c .before .loop .i ≡ c .before .before .args .live = omega arith in
-    (c .before .loop .inv .3 ∙ ap (λ (k : ℕ). usedInForm (c .before .before .args .n) k (c .before .before .args .t1)) all-read,
-    λ h e. rw (← all-read) (c .before .loop .inv .4 h e))
+    let all-read : c .before .loop .i ≡ c .before .before .args .live = omega arith in (
+      c .before .loop .inv .3 ∙ ap (λ (k : ℕ). usedInForm (c .before .before .args .n) k (c .before .before .args .t1)) all-read,
+      λ h e. rw (← all-read) (c .before .loop .inv .4 h e),
+    )
 
 pub used-in-form-spec : {M : Type 1} → statement M
 used-in-form-spec =

@@ -59,9 +59,9 @@ cast-n c = search needs
 -- src/lib.rt:75:9
 returns : tie.Need-returns
 returns c = (
-      too-many (c .before .before .before .args .sheet .now) (c .before .before .before .args .m) (c .before .before .before .args .live) (c .before .before .before .args .firings) (c .if1 .taken),
-      λ h. both false h refl,
-    )
+  too-many (c .before .before .before .args .sheet .now) (c .before .before .before .args .m) (c .before .before .before .args .live) (c .before .before .before .args .firings) (c .if1 .taken),
+  λ h. both false h refl,
+)
 
 -- src/lib.rt:77:9
 in-form-requires : tie.Need-in-form-requires
@@ -82,9 +82,9 @@ keys-climb-requires c κs = search needs
 -- src/lib.rt:82:9
 returns-2 : tie.Need-returns-2
 returns-2 c = (
-      unsound (c .before .before .before .before .before .before .before .before .args .sheet .now) (c .before .before .before .before .before .before .before .before .args .m) (c .before .before .before .before .before .before .before .before .args .live) (c .before .before .before .before .before .before .before .before .args .firings) (c .before .before .before .before .before .if1 .left) (sym (gathered (c .before)) ∙ not-true _ (c .if2 .taken)),
-      λ h. both false h refl,
-    )
+  unsound (c .before .before .before .before .before .before .before .before .args .sheet .now) (c .before .before .before .before .before .before .before .before .args .m) (c .before .before .before .before .before .before .before .before .args .live) (c .before .before .before .before .before .before .before .before .args .firings) (c .before .before .before .before .before .if1 .left) (sym (gathered (c .before)) ∙ not-true _ (c .if2 .taken)),
+  λ h. both false h refl,
+)
 
 -- src/lib.rt:84:9
 start-marking-requires : tie.Need-start-marking-requires

@@ -3,6 +3,8 @@ use mathlib.Core.Path.{_≡_, refl, ap, sym, _∙_}
 use Prim.Native.Nat.{ℕ, suc, _+_, _-_, _*_, _<_, _≤_}
 use lib.ListN.{length, getD, take, drop, set}
 use mathlib.Core.List.{List, [], _∷_, _++_}
+use borrow.Author.Tests.{not-true, not-false}
+use Rattle.session.proofs.Answering.{sheet-clear, sheet-refused, record-refused, performed, sound-of}
 use borrow.Author.Needs.{needs}
 use Rattle.session.proofs.Record.answer.Statement.{statement}
 use Rattle.session.proofs.Record.answer.Tie as tie
@@ -28,11 +30,11 @@ refused-requires c κs = search needs
 
 -- src/lib.rt:224:13
 returns : tie.Need-returns
-returns c = search needs
+returns c = c .refused .ensures ∙ sheet-refused (c .before .before .before .before .before .before .args .sheet .now) (c .before .before .before .before .before .before .args .self) (c .before .before .before .before .before .before .args .bytes .now) _ (c .before .before .sheet-number .ensures ∙ c .before .before .before .check-sheet .ensures .1) (c .before .if1 .taken)
 
 -- src/lib.rt:229:13
 is-sound-requires : tie.Need-is-sound-requires
-is-sound-requires c κs = search needs
+is-sound-requires c κs = sheet-clear (c .before .before .before .before .before .before .before .args .sheet .now) _ (c .before .before .before .sheet-number .ensures ∙ c .before .before .before .before .check-sheet .ensures .1) (c .before .before .if1 .left)
 
 -- src/lib.rt:230:13
 refused-requires-2 : tie.Need-refused-requires-2
@@ -40,15 +42,17 @@ refused-requires-2 c κs = search needs
 
 -- src/lib.rt:230:13
 returns-2 : tie.Need-returns-2
-returns-2 c = search needs
+returns-2 c = c .refused2 .ensures ∙ record-refused (c .before .before .before .before .before .before .before .before .before .before .args .sheet .now) (c .before .before .before .before .before .before .before .before .before .before .args .self) (c .before .before .before .before .before .before .before .before .before .before .args .bytes .now) (sheet-clear (c .before .before .before .before .before .before .before .before .before .before .args .sheet .now) _ (c .before .before .before .before .before .before .sheet-number .ensures ∙ c .before .before .before .before .before .before .before .check-sheet .ensures .1) (c .before .before .before .before .before .if1 .left)) (sym (c .before .before .is-sound .ensures .0) ∙ not-true _ (c .before .if2 .taken))
 
 -- src/lib.rt:232:9
 perform-requires : tie.Need-perform-requires
-perform-requires c κs = search needs
+perform-requires c κs =
+    let yes = not-false _ (c .if2 .left) in
+    sound-of (c .before .before .before .before .before .before .before .before .before .args .sheet .now) (c .before .before .before .before .before .before .before .before .before .args .self) (sheet-clear (c .before .before .before .before .before .before .before .before .before .args .sheet .now) _ (c .before .before .before .before .before .sheet-number .ensures ∙ c .before .before .before .before .before .before .check-sheet .ensures .1) (c .before .before .before .before .if1 .left)) (sym (c .before .is-sound .ensures .0) ∙ yes) (c .before .is-sound .ensures .1 yes)
 
 -- src/lib.rt:218:5
 returns-3 : tie.Need-returns-3
-returns-3 c = search needs
+returns-3 c = c .perform .ensures ∙ performed (c .before .before .before .before .before .before .before .before .before .before .args .sheet .now) (c .before .before .before .before .before .before .before .before .before .before .args .self) (c .before .before .before .before .before .before .before .before .before .before .args .bytes .now) (sheet-clear (c .before .before .before .before .before .before .before .before .before .before .args .sheet .now) _ (c .before .before .before .before .before .before .sheet-number .ensures ∙ c .before .before .before .before .before .before .before .check-sheet .ensures .1) (c .before .before .before .before .before .if1 .left)) (sym (c .before .before .is-sound .ensures .0) ∙ not-false _ (c .before .if2 .left))
 
 pub answer-spec : {M : Type 1} → statement M
 answer-spec =

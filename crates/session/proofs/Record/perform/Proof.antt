@@ -3,6 +3,13 @@ use mathlib.Core.Path.{_≡_, refl, ap, sym, _∙_}
 use Prim.Native.Nat.{ℕ, suc, _+_, _-_, _*_, _<_, _≤_}
 use lib.ListN.{length, getD, take, drop, set}
 use mathlib.Core.List.{List, [], _∷_, _++_}
+use borrow.Author.Tests.{lt-ltb, le-ltb}
+use Rattle.net.specs.Journal.{key}
+use Rattle.format.specs.Parts.{basesOf}
+use Rattle.session.specs.Commands.{undoOutcome}
+use Rattle.session.specs.declared.Record.{Record}
+use Rattle.session.proofs.Sounds.{held, live-few, last-given}
+use Rattle.session.proofs.Performing.{cut, unread, given}
 use borrow.Author.Needs.{needs}
 use Rattle.session.proofs.Record.perform.Statement.{statement}
 use Rattle.session.proofs.Record.perform.Tie as tie
@@ -20,7 +27,7 @@ refused-requires c κs = search needs
 
 -- src/lib.rt:199:13
 returns : tie.Need-returns
-returns c = search needs
+returns c = c .refused .ensures ∙ cut (c .before .before .before .before .args .sheet .now) (c .before .before .before .before .args .self) (c .before .before .before .before .args .bytes .now) (lt-ltb _ _ (c .before .if1 .taken))
 
 -- src/lib.rt:201:13
 decode-requires : tie.Need-decode-requires
@@ -40,7 +47,7 @@ refused-requires-2 c κs = search needs
 
 -- src/lib.rt:203:13
 returns-2 : tie.Need-returns-2
-returns-2 c = search needs
+returns-2 c = c .refused2 .ensures ∙ unread (c .before .before .before .before .before .before .before .args .sheet .now) (c .before .before .before .before .before .before .before .args .self) (c .before .before .before .before .before .before .before .args .bytes .now) (le-ltb _ _ (c .before .before .before .before .if1 .left)) _ (c .before .enum-told .given .1) (c .before .before .before .decode .ensures)
 
 -- src/lib.rt:206:27
 enum-known-c : tie.Need-enum-known-c
@@ -48,7 +55,7 @@ enum-known-c c = search needs
 
 -- src/lib.rt:206:33
 fire-requires : tie.Need-fire-requires
-fire-requires c κs = search needs
+fire-requires c κs = c .before .before .before .before .before .before .before .before .before .before .pre
 
 -- src/lib.rt:207:27
 enum-known-c-2 : tie.Need-enum-known-c-2
@@ -56,7 +63,7 @@ enum-known-c-2 c = search needs
 
 -- src/lib.rt:207:33
 undo-requires : tie.Need-undo-requires
-undo-requires c κs = search needs
+undo-requires c κs = c .before .before .before .before .before .before .before .before .before .before .pre
 
 -- src/lib.rt:209:21
 enum-told-2 : tie.Need-enum-told-2
@@ -64,23 +71,28 @@ enum-told-2 c = search needs
 
 -- src/lib.rt:211:21
 last-key-requires : tie.Need-last-key-requires
-last-key-requires c κs = search needs
+last-key-requires c κs = live-few (c .before .before .before .before .before .before .before .before .before .before .args .sheet .now) (c .before .before .before .before .before .before .before .before .before .before .args .self) (c .before .before .before .before .before .before .before .before .before .before .pre)
 
 -- src/lib.rt:212:17
 undo-requires-2 : tie.Need-undo-requires-2
-undo-requires-2 c κs = search needs
+undo-requires-2 c κs = c .before .before .before .before .before .before .before .before .before .before .before .pre
 
 -- src/lib.rt:194:5
 returns-3 : tie.Need-returns-3
-returns-3 c = search needs
+returns-3 c = c .fire .ensures ∙ given (c .before .before .before .before .before .before .before .before .before .before .before .args .sheet .now) (c .before .before .before .before .before .before .before .before .before .before .before .args .self) (c .before .before .before .before .before .before .before .before .before .before .before .args .bytes .now) (le-ltb _ _ (c .before .before .before .before .before .before .before .before .if1 .left)) _ _ _ (c .before .before .before .before .before .read .given .1) (c .before .before .before .before .before .before .before .decode .ensures) (c .before .before .c .given .1)
 
 -- src/lib.rt:194:5
 returns-4 : tie.Need-returns-4
-returns-4 c = search needs
+returns-4 c = c .undo .ensures ∙ given (c .before .before .before .before .before .before .before .before .before .before .before .args .sheet .now) (c .before .before .before .before .before .before .before .before .before .before .before .args .self) (c .before .before .before .before .before .before .before .before .before .before .before .args .bytes .now) (le-ltb _ _ (c .before .before .before .before .before .before .before .before .if1 .left)) _ _ _ (c .before .before .before .before .before .read .given .1) (c .before .before .before .before .before .before .before .decode .ensures) (c .before .before .c2 .given .1)
 
 -- src/lib.rt:194:5
 returns-5 : tie.Need-returns-5
-returns-5 c = search needs
+returns-5 c =
+    let s : List ℕ = c .before .before .before .before .before .before .before .before .before .before .before .before .args .sheet .now in
+    let r : Record = c .before .before .before .before .before .before .before .before .before .before .before .before .args .self in
+    let last = c .before .last-key .ensures ∙ last-given (basesOf s) (r .live) (r .firings) (held s r (c .before .before .before .before .before .before .before .before .before .before .before .before .pre) .up) in
+    c .undo2 .ensures ∙ ap (λ (k : ℕ). undoOutcome s r (key k)) last
+    ∙ given s r (c .before .before .before .before .before .before .before .before .before .before .before .before .args .bytes .now) (le-ltb _ _ (c .before .before .before .before .before .before .before .before .before .if1 .left)) _ _ _ (c .before .before .before .before .before .before .read .given .1) (c .before .before .before .before .before .before .before .before .decode .ensures) (c .before .before .before .enum-told2 .given .1)
 
 pub perform-spec : {M : Type 1} → statement M
 perform-spec =
