@@ -3,7 +3,7 @@
 use mathlib.Core.Path.{_≡_, refl, sym, _∙_, ap}
 use mathlib.Core.Bool.{Bool, true, false, not, _&&_}
 use mathlib.Core.List.{List, [], _∷_, _++_}
-use Prim.Native.Nat.{ℕ, zero, suc, _+_}
+use Prim.Native.Nat.{ℕ}
 use lib.Dec.{eqb, ltb}
 use borrow.Author.Tests.{eqb-true, eq-eqb}
 use Rattle.causal.proofs.Tests.{test, both}
@@ -12,9 +12,8 @@ use Rattle.net.specs.Checks.{Check, check, clear, first}
 use Rattle.net.specs.Journal as J
 use Rattle.net.specs.Journal.{kindOf, transitionNamed, keyNamed, fireReply, undoReply, checks, kindChecks, fireChecks, undoChecks}
 use Rattle.net.proofs.Tests.{all-append}
-use Rattle.format.specs.Parts.{transitionsOf}
 use Rattle.format.specs.NetOf.{netOf}
-use Rattle.sheet.specs.Checks.{sheetChecks, checksFrom}
+use Rattle.sheet.specs.Checks.{sheetChecks}
 use Rattle.sheet.proofs.Order.{clear-first}
 use Rattle.tally.specs.Counts.{countedOf}
 use Rattle.tally.specs.declared.Tally.{Tally}
@@ -25,6 +24,7 @@ use Rattle.session.specs.declared.Answer.{Answer}
 use Rattle.session.specs.declared.Answer.the-variants.{Fired, Undone, Refused}
 use Rattle.session.specs.declared.Outcome.{Outcome}
 use Rattle.session.proofs.Steps.{outcome-is}
+use Rattle.session.proofs.Answering.{sheet-positive}
 use Rattle.claims.specs.Demands.{oneMoreRefused, Demand1, FirstHolds, Demand2}
 
 -- ---- lists of checks
@@ -52,14 +52,6 @@ found-first n (c ∷ before) after h = go (c .holds) h (found-first n before aft
     go false d ih = ih d
 
 -- ---- the numbers of all checks of a command
-
-from-positive : (s : List ℕ) (k n : ℕ) → positive (checksFrom s k n) ≡ true
-from-positive s k zero = refl
-from-positive s k (suc n) = from-positive s (k + 1) n
-
-sheet-positive : (s : List ℕ) → positive (sheetChecks s) ≡ true
-unfolding sheetChecks
-sheet-positive s = from-positive s 0 (transitionsOf s)
 
 command-positive : (s : List ℕ) (r : Record) (c : List ℕ) → positive (commandChecks s r c) ≡ true
 command-positive s r c = all-append (λ (d : Check). ltb 0 (d .number)) (sheetChecks s) (check 10 (not (soundFor s r)) ∷ checks (netOf s) (heldIn s r) c)

@@ -6,6 +6,10 @@ use mathlib.Core.List.{List}
 use Prim.Native.Nat.{ℕ}
 use Rattle.net.specs.Checks.{clear}
 use Rattle.sheet.specs.Checks.{sheetChecks}
+use Rattle.format.specs.Parts.{partOf, transitionBytes}
+use Rattle.sheet_start.specs.Conditions.{wrongSize, wrongVersion, wrongCounts, wrongPairs, wrongStartPlaces, wrongStartBonds}
+use Rattle.sheet_arcs.specs.Conditions.{wrongWidth, wrongEntries}
+use Rattle.sheet_bonds.specs.Conditions.{wrongBonds}
 use Rattle.sheet.specs.Samples.{sheetA, sheetB}
 use Rattle.sheet.proofs.Accepted.{promised}
 use Rattle.tally.specs.declared.Tally.{Tally}
@@ -21,3 +25,19 @@ demands = record {
   demand3 = λ s accepted. let P = promised s accepted in demand3 s accepted (P .rule) (P .bases .1);
   totals = λ s accepted. let P = promised s accepted in session-totals s accepted (P .rule) (P .bases .1);
 }
+
+-- ---- instances: sheets A and B are accepted, so demand 3 holds of every list of commands on them
+
+accepted-A : clear (sheetChecks sheetA) ≡ true
+unfolding sheetChecks wrongSize wrongVersion wrongCounts wrongPairs wrongStartPlaces wrongStartBonds wrongWidth wrongEntries wrongBonds transitionBytes partOf
+accepted-A = refl
+
+accepted-B : clear (sheetChecks sheetB) ≡ true
+unfolding sheetChecks wrongSize wrongVersion wrongCounts wrongPairs wrongStartPlaces wrongStartBonds wrongWidth wrongEntries wrongBonds transitionBytes partOf
+accepted-B = refl
+
+pub demand3-A : (cs : List (List ℕ)) (t : Tally) → Demand3 sheetA cs t
+demand3-A = demands .demand3 sheetA accepted-A
+
+pub demand3-B : (cs : List (List ℕ)) (t : Tally) → Demand3 sheetB cs t
+demand3-B = demands .demand3 sheetB accepted-B
