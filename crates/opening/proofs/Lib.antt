@@ -1,0 +1,2 @@
+-- Laws of starting a session.
+pub mod Starting

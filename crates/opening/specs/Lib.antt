@@ -1,0 +1,1 @@
+-- No definition of its own: starting is defined in the crate session.
