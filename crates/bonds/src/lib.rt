@@ -5,6 +5,7 @@ ghost use mathlib.Core.Bool.{Bool};
 ghost use mathlib.Core.List.{List, map};
 ghost use Prim.Native.Nat.{ℕ, _+_, _<_, _≤_};
 ghost use lib.ListN.{length, getD};
+ghost use Rattle.net.specs.Limits.{maxBases};
 ghost use Rattle.net.specs.Tests.{pick, table};
 ghost use Rattle.net.specs.Net.{bond, sameBond, lessBond, hasBond};
 ghost use Rattle.net.specs.Connection.{label};
@@ -83,7 +84,7 @@ fn rename(labels: [Base; MAX_BASES], from: Base, to: Base) -> [Base; MAX_BASES]
 
 // The labels after the bond of p and q. Equal labels cost nothing.
 fn join(labels: [Base; MAX_BASES], p: Base, q: Base) -> [Base; MAX_BASES]
-    requires { ⌜ (p < 64) × (q < 64) ⌝ }
+    requires { ⌜ (p < maxBases) × (q < maxBases) ⌝ }
     ensures { λ r. ⌜ r ≡ joinedLabels labels p q ⌝ }
 {
     let to = labels[p as usize];
@@ -96,7 +97,7 @@ fn join(labels: [Base; MAX_BASES], p: Base, q: Base) -> [Base; MAX_BASES]
 
 // At first each base has itself for a label.
 fn own_labels() -> [Base; MAX_BASES]
-    ensures { λ r. ⌜ r ≡ table 64 (λ p. p) ⌝ }
+    ensures { λ r. ⌜ r ≡ table maxBases (λ p. p) ⌝ }
 {
     let mut l = [0u8; MAX_BASES];
     let mut i = 0;
@@ -108,11 +109,11 @@ fn own_labels() -> [Base; MAX_BASES]
 }
 
 // The labels of all bases after the first `count` bonds, in their order: connected bases have one label.
-// The bonds are of bases below 64: the callers hold a good marking.
+// The bonds are of bases below the limit: the callers hold a good marking.
 pub fn labels<'a>(lo: &'a [Base], hi: &'a [Base], count: usize) -> [Base; MAX_BASES]
     requires { ⌜ (count ≤ length (now lo)) × (count ≤ length (now hi)) ⌝ }
-    requires { ⌜ ((i : ℕ) → i < count → (getD (now lo) i 0 < 64) × (getD (now hi) i 0 < 64)) ⌝ }
-    ensures { λ r. ⌜ r ≡ table 64 (label (bondsIn (now (lo .entry)) (now (hi .entry)) count)) ⌝ }
+    requires { ⌜ ((i : ℕ) → i < count → (getD (now lo) i 0 < maxBases) × (getD (now hi) i 0 < maxBases)) ⌝ }
+    ensures { λ r. ⌜ r ≡ table maxBases (label (bondsIn (now (lo .entry)) (now (hi .entry)) count)) ⌝ }
 {
     let mut l = own_labels();
     let mut unread = count;

@@ -23,7 +23,7 @@ use Rattle.net.proofs.Totals.{totals}
 use Rattle.format.specs.Parts.{basesOf}
 use Rattle.format.specs.NetOf.{netOf}
 use Rattle.sheet.specs.Checks.{sheetChecks}
-use Rattle.tally.specs.Counts.{oneMore, countedOf}
+use Rattle.tally.specs.Counts.{maxCount, oneMore, countedOf}
 use Rattle.tally.specs.declared.Tally.{Tally}
 use Rattle.session.specs.Records.{recordOf}
 use Rattle.session.specs.declared.Record.{Record}
@@ -35,9 +35,9 @@ use Rattle.claims.specs.Demands.{zeroTally, SessionTotals}
 
 -- ---- one command
 
-below-limit : (n : ℕ) → n < 65535 → oneMore n ≡ n + 1
+below-limit : (n : ℕ) → n < maxCount → oneMore n ≡ n + 1
 unfolding oneMore
-below-limit n h = rw (lt-ltb n 65535 h)
+below-limit n h = rw (lt-ltb n maxCount h)
 
 -- a line taken out
 without-length : (k : Key) (ls : List LiveLine) → Up ls → isLive k ls ≡ true → length (without k ls) + 1 ≡ length ls
@@ -58,7 +58,7 @@ pub record Adds (t : Tally) (j : Journal) (given : ℕ) : Type 0 where
 abbrev counted : Tally → Reply → Tally
 counted t y = countedOf t (countOf (answerOf (y .answer)))
 
-module _ (net : Net) (j : Journal) (t : Tally) (k : ℕ) (H : Held net j) (A : Adds t j k) (small : k < 65535) where
+module _ (net : Net) (j : Journal) (t : Tally) (k : ℕ) (H : Held net j) (A : Adds t j k) (small : k < maxCount) where
   adds-fired : (c : List ℕ) → Adds (counted t (fireReply net j (transitionNamed c))) (fireReply net j (transitionNamed c) .journal) (k + 1)
   unfolding countedOf
   adds-fired c =
@@ -104,7 +104,7 @@ module _ (s : List ℕ) (accepted : clear (sheetChecks s) ≡ true) (ok : netRul
   unfolding commandOf
   session-step j t c H = ap (λ (o : Outcome). o .session) (step s accepted ok few j c H)
 
-  adds-run : (cs : List (List ℕ)) (j : Journal) (t : Tally) (k : ℕ) → Held (netOf s) j → Adds t j k → k + length cs ≤ 65535
+  adds-run : (cs : List (List ℕ)) (j : Journal) (t : Tally) (k : ℕ) → Held (netOf s) j → Adds t j k → k + length cs ≤ maxCount
       → Adds (runOf s cs (recordOf j) t .tally) (play (netOf s) cs j) (k + length cs)
   adds-run [] j t k H A h = record { live = A .live; all = let b = A .all in omega arith }
   adds-run (c ∷ cs) j t k H A h =

@@ -17,7 +17,7 @@ use Rattle.net.specs.Journal.{LiveLine, Journal, kindOf, transitionNamed, keyNa
 use Rattle.net.specs.Claims.{fireCommands, numbered, allFired, Totals}
 use Rattle.format.specs.NetOf.{netOf}
 use Rattle.sheet.specs.Checks.{sheetChecks}
-use Rattle.tally.specs.Counts.{oneMore}
+use Rattle.tally.specs.Counts.{maxCount, oneMore}
 use Rattle.tally.specs.declared.Tally.{Tally}
 use Rattle.session.specs.Records.{recordOf}
 use Rattle.session.specs.declared.Record.{Record}
@@ -94,7 +94,7 @@ pub record SessionTotals (s : List ℕ) (cs : List (List ℕ)) : Type 0 where
   -- at every point each base is in one place, bonded bases share a place, and the bonds have their number
   pub marking : Totals (netOf s) (journalAfter s cs)
   -- over at most 65,535 commands from a tally of zeros, fired less undone is the number of live firings
-  pub live : length cs ≤ 65535 → sessionAfter s cs zeroTally .tally .fired ≡ sessionAfter s cs zeroTally .tally .undone + sessionAfter s cs zeroTally .session .live
+  pub live : length cs ≤ maxCount → sessionAfter s cs zeroTally .tally .fired ≡ sessionAfter s cs zeroTally .tally .undone + sessionAfter s cs zeroTally .session .live
 
 -- ---- All of it: 1 and 2 of every sheet, record, tally and command; 3 and the totals of every accepted sheet
 

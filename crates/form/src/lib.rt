@@ -1,7 +1,7 @@
 // The form of a marking (document 01, the record: unused entries hold 0) as a test, and whether two markings or
 // two sets of bases are the same. Every entry is looked at: no early exit within an array.
 ghost use mathlib.Core.Path.{_≡_};
-ghost use mathlib.Core.Bool.{Bool, true, Bool·beq};
+ghost use mathlib.Core.Bool.{Bool, true};
 ghost use Prim.Native.Nat.{ℕ, _≤_};
 ghost use lib.Dec.{eqb};
 ghost use lib.ListN.{length, take};
@@ -81,17 +81,4 @@ pub fn clear_from(k: usize, set: [bool; MAX_BASES]) -> bool
         i += 1;
     }
     clear
-}
-
-// Whether two sets are the same.
-pub fn same_set(a: [bool; MAX_BASES], b: [bool; MAX_BASES]) -> bool
-    ensures { λ r. ⌜ r ≡ sameList Bool·beq a b ⌝ }
-{
-    let mut same = true;
-    let mut i = 0;
-    while i < MAX_BASES {
-        same = same & (a[i] == b[i]);
-        i += 1;
-    }
-    same
 }

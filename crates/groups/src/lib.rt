@@ -33,7 +33,7 @@ fn side(back: bool, e: Entry) -> Place
 // The groups that the entries hit. From the last entry to the first, so that the first of a group has the last word.
 // The callers' entries are of bases of the net, and labels are bases.
 pub fn grouped(step: &[u8], labels: [Base; MAX_BASES], back: bool) -> Groups
-    requires { ⌜ ((i : ℕ) → i < entryCount (now step) → (nthEntry (now step) i .base < 64) × (labelIn labels (nthEntry (now step) i .base) < 64)) ⌝ }
+    requires { ⌜ ((i : ℕ) → i < entryCount (now step) → (nthEntry (now step) i .base < maxBases) × (labelIn labels (nthEntry (now step) i .base) < maxBases)) ⌝ }
     ensures { λ r. ⌜ r ≡ groupsOf (labelIn labels) back (arcsIn (now (step .entry)) .entries) ⌝ }
 {
     let mut hit = [false; MAX_BASES];
@@ -54,7 +54,7 @@ pub fn grouped(step: &[u8], labels: [Base; MAX_BASES], back: bool) -> Groups
 
 // The moved bases: those whose group is hit.
 pub fn moved(n: usize, labels: [Base; MAX_BASES], g: Groups) -> [bool; MAX_BASES]
-    requires { ⌜ (n ≤ 64) × ((p : ℕ) → p < n → labelIn labels p < 64) ⌝ }
+    requires { ⌜ (n ≤ maxBases) × ((p : ℕ) → p < n → labelIn labels p < maxBases) ⌝ }
     ensures { λ r. ⌜ r ≡ flags (table n (λ p. getD (g .hit) (labelIn labels p) false)) ⌝ }
 {
     let mut new = [false; MAX_BASES];
@@ -82,7 +82,7 @@ pub fn sent_places(
     g: Groups,
     may: [bool; MAX_BASES],
 ) -> [Place; MAX_BASES]
-    requires { ⌜ (n ≤ 64) × ((p : ℕ) → p < n → labelIn labels p < 64) ⌝ }
+    requires { ⌜ (n ≤ maxBases) × ((p : ℕ) → p < n → labelIn labels p < maxBases) ⌝ }
     ensures { λ r. ⌜ r ≡ padded maxBases (table n (λ p. goesTo g (labelIn labels p) (getD may p false) (getD places p 0))) ⌝ }
 {
     let mut new = [0u8; MAX_BASES];
@@ -97,7 +97,7 @@ pub fn sent_places(
 
 // Whether some entry gives another place than the first of its group.
 pub fn torn(step: &[u8], labels: [Base; MAX_BASES], g: Groups) -> bool
-    requires { ⌜ ((i : ℕ) → i < entryCount (now step) → (nthEntry (now step) i .base < 64) × (labelIn labels (nthEntry (now step) i .base) < 64)) ⌝ }
+    requires { ⌜ ((i : ℕ) → i < entryCount (now step) → (nthEntry (now step) i .base < maxBases) × (labelIn labels (nthEntry (now step) i .base) < maxBases)) ⌝ }
     ensures { λ r. ⌜ r ≡ any (λ (e : Entry). not (eqb (e .to) (getD (g .place) (labelIn labels (e .base)) 0))) (arcsIn (now (step .entry)) .entries) ⌝ }
 {
     let n = entry_count(step);

@@ -7,7 +7,7 @@ use Prim.Native.Nat.{ℕ}
 use lib.Dec.{eqb}
 use lib.ListN.{replicate}
 use borrow.Author.Tests.{eq-eqb, ne-eqb}
-use Rattle.net.specs.Limits.{maxLive}
+use Rattle.net.specs.Limits.{maxBases, maxBonds, maxLive}
 use Rattle.net.specs.Tests.{pick}
 use Rattle.net.specs.Checks.{clear, first}
 use Rattle.format.specs.NetOf.{netOf}
@@ -27,9 +27,9 @@ use Rattle.session.proofs.Answering.{sheet-positive, sheet-clear}
 
 -- zeros in every array
 pub zeros : (f : Firing) → f ≡ noFiring
-    → record { marking = record { places = replicate 64 0; count = 0; lo = replicate 2016 0; hi = replicate 2016 0 }; live = 0; firings = replicate maxLive f } ≡ zeroRecord
+    → record { marking = record { places = replicate maxBases 0; count = 0; lo = replicate maxBonds 0; hi = replicate maxBonds 0 }; live = 0; firings = replicate maxLive f } ≡ zeroRecord
 unfolding zeroRecord recordOf
-zeros f e = λ i. record { marking = record { places = replicate 64 0; count = 0; lo = replicate 2016 0; hi = replicate 2016 0 }; live = 0; firings = replicate maxLive (e i) }
+zeros f e = λ i. record { marking = record { places = replicate maxBases 0; count = 0; lo = replicate maxBonds 0; hi = replicate maxBonds 0 }; live = 0; firings = replicate maxLive (e i) }
 
 module _ (s : List ℕ) (n : ℕ) (e : n ≡ first (sheetChecks s)) where
   pub refused : (r : Record) → (n ≡ 0 → ⊥) → r ≡ zeroRecord → record { answer = NotStarted n; session = r } ≡ startOf s

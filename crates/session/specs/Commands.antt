@@ -103,9 +103,13 @@ undoOutcome s r k = pick (clear (undoChecks (heldIn s r) k)) (outcomeOf (undoRep
 unfoldable pub performOf : List ℕ → Record → List ℕ → Outcome
 performOf s r c = pick (clear (checks (netOf s) (heldIn s r) c)) (acceptOf s r c) (refusal r (first (checks (netOf s) (heldIn s r) c)))
 
+-- What every call on a record checks before its own: 1 to 9, then 10.
+abbrev pub recordChecks : List ℕ → Record → List Check → List Check
+recordChecks s r own = sheetChecks s ++ (check 10 (not (soundFor s r)) ∷ own)
+
 -- All checks of a command, in checking order: 1 to 9, 10, then 21, or 11 to 20.
 abbrev pub commandChecks : List ℕ → Record → List ℕ → List Check
-commandChecks s r c = sheetChecks s ++ (check 10 (not (soundFor s r)) ∷ checks (netOf s) (heldIn s r) c)
+commandChecks s r c = recordChecks s r (checks (netOf s) (heldIn s r) c)
 
 -- The outcome and the tally of a command.
 pub record Result : Type 0 where

@@ -2,3 +2,4 @@
 pub mod Records
 pub mod Commands
 pub mod Runs
+pub mod Listings

@@ -5,9 +5,13 @@ use lib.Dec.{ltb, eqb}
 use Rattle.net.specs.Tests.{pick}
 use Rattle.tally.specs.declared.Tally.{Tally}
 
--- one more; a count at 65,535 stays there
+-- the highest count; src/lib.rt has it for the code
+abbrev pub maxCount : ℕ
+maxCount = 65535
+
+-- one more; the highest count stays
 unfoldable pub oneMore : ℕ → ℕ
-oneMore n = pick (ltb n 65535) (n + 1) n
+oneMore n = pick (ltb n maxCount) (n + 1) n
 
 -- 0 adds to fired, 1 to undone, any other number to refused
 unfoldable pub countedOf : Tally → ℕ → Tally

@@ -9,6 +9,9 @@ pub struct Tally {
     pub refused: u16,
 }
 
+// The highest count.
+pub const MAX_COUNT: u16 = 65535;
+
 // Which count a command adds to.
 pub const FIRED: u8 = 0;
 
@@ -16,11 +19,11 @@ pub const UNDONE: u8 = 1;
 
 pub const REFUSED: u8 = 2;
 
-// One more; a count at 65,535 stays there.
+// One more; the highest count stays.
 pub fn one_more(n: u16) -> u16
     ensures { λ r. ⌜ r ≡ oneMore n ⌝ }
 {
-    if n < 65535 { n + 1 } else { n }
+    if n < MAX_COUNT { n + 1 } else { n }
 }
 
 // The tally with one more in one count.

@@ -4,6 +4,7 @@ use mathlib.Core.Path.{_≡_, _∙_}
 use Prim.Native.Nat.{_+_}
 use native.Mathlib.Omega.{arith}
 use borrow.Author.Needs.{needs}
+use Rattle.net.specs.Limits.{maxBases}
 use Rattle.net.specs.Connection.{label}
 use Rattle.net.specs.Tests.{table}
 use Rattle.bonds.proofs.Renaming.{label-turn}
@@ -12,7 +13,7 @@ use Rattle.bonds.proofs.labels.Tie as tie
 use Rattle.bonds.proofs.labels.Statement.{statement}
 
 abbrev Inv-loop : tie.InvT-loop
-Inv-loop lo hi count l₀ left₀ i₀ l unread i = (i + unread ≡ count) × (l ≡ table 64 (label (bondsIn lo hi i)))
+Inv-loop lo hi count l₀ left₀ i₀ l unread i = (i + unread ≡ count) × (l ≡ table maxBases (label (bondsIn lo hi i)))
 
 abbrev μ-loop : tie.MeasureT-loop
 μ-loop lo hi count l₀ left₀ i₀ l unread i = unread
@@ -46,7 +47,7 @@ loop-again c =
     let s = c .before .before .before .before .before .before .before .before in
     let at = c .before .before .before .before in
     let h = s .pre .1 (at .loop .i) (omega arith) in
-    (search needs, label-turn 64 (s .args .lo .now) (s .args .hi .now) (at .loop .i) _ _ (h .0) (h .1) (at .loop .inv .1) (c .join .ensures))
+    (search needs, label-turn maxBases (s .args .lo .now) (s .args .hi .now) (at .loop .i) _ _ (h .0) (h .1) (at .loop .inv .1) (c .join .ensures))
 
 returns : tie.Need-returns Inv-loop μ-loop
 returns c = let e : c .before .loop .i ≡ c .before .before .before .before .before .args .count = omega arith in c .before .loop .inv .1 ∙ rw e

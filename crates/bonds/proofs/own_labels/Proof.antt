@@ -6,16 +6,17 @@ use Prim.Native.Nat.{_-_, _≤_}
 use native.Mathlib.Omega.{arith}
 use lib.ListN.{length, drop}
 use borrow.Author.Needs.{needs}
+use Rattle.net.specs.Limits.{maxBases}
 use Rattle.net.specs.Tests.{table}
 use Rattle.bonds.proofs.Fill.{fill-turn, fill-end}
 use Rattle.bonds.proofs.own_labels.Tie as tie
 use Rattle.bonds.proofs.own_labels.Statement.{statement}
 
 abbrev Inv-loop : tie.InvT-loop
-Inv-loop l₀ i₀ l i = (i ≤ 64) × (length l₀ ≡ 64) × (l ≡ table i (λ p. p) ++ drop i l₀)
+Inv-loop l₀ i₀ l i = (i ≤ maxBases) × (length l₀ ≡ maxBases) × (l ≡ table i (λ p. p) ++ drop i l₀)
 
 abbrev μ-loop : tie.MeasureT-loop
-μ-loop l₀ i₀ l i = 64 - i
+μ-loop l₀ i₀ l i = maxBases - i
 
 loop-holds : tie.Need-loop-holds Inv-loop μ-loop
 loop-holds c = (search needs, search needs, refl)
@@ -36,7 +37,7 @@ loop-again : tie.Need-loop-again Inv-loop μ-loop
 loop-again c = (search needs, search needs, fill-turn (λ p. p) (c .before .loop .i) _ _ 0 _ (omega arith) refl (c .before .loop .inv .2))
 
 returns : tie.Need-returns Inv-loop μ-loop
-returns c = fill-end (λ p. p) (c .before .loop .i) 64 _ _ (c .before .loop .inv .1) (omega arith) (c .before .loop .inv .2)
+returns c = fill-end (λ p. p) (c .before .loop .i) maxBases _ _ (c .before .loop .inv .1) (omega arith) (c .before .loop .inv .2)
 
 pub own-labels-spec : {M : Type 1} → statement M
 own-labels-spec =

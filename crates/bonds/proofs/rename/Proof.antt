@@ -6,6 +6,7 @@ use Prim.Native.Nat.{_-_, _≤_}
 use native.Mathlib.Omega.{arith}
 use lib.ListN.{length, getD, drop}
 use borrow.Author.Needs.{needs}
+use Rattle.net.specs.Limits.{maxBases}
 use Rattle.net.specs.Tests.{table}
 use Rattle.bonds.proofs.Fill.{fill-turn, fill-end, table-map}
 use Rattle.bonds.specs.Ends.{renamed}
@@ -13,10 +14,10 @@ use Rattle.bonds.proofs.rename.Tie as tie
 use Rattle.bonds.proofs.rename.Statement.{statement}
 
 abbrev Inv-loop : tie.InvT-loop
-Inv-loop from to labels l₀ i₀ l i = (i ≤ 64) × (length l₀ ≡ 64) × (length labels ≡ 64) × (l ≡ table i (λ j. renamed from to (getD labels j 0)) ++ drop i l₀)
+Inv-loop from to labels l₀ i₀ l i = (i ≤ maxBases) × (length l₀ ≡ maxBases) × (length labels ≡ maxBases) × (l ≡ table i (λ j. renamed from to (getD labels j 0)) ++ drop i l₀)
 
 abbrev μ-loop : tie.MeasureT-loop
-μ-loop from to labels l₀ i₀ l i = 64 - i
+μ-loop from to labels l₀ i₀ l i = maxBases - i
 
 loop-holds : tie.Need-loop-holds Inv-loop μ-loop
 loop-holds c = (search needs, search needs, search needs, refl)

@@ -7,6 +7,7 @@ use native.Mathlib.Omega.{arith}
 use lib.Dec.{eqb}
 use lib.ListN.{getD}
 use borrow.Author.Needs.{needs}
+use Rattle.net.specs.Limits.{maxBases}
 use Rattle.net.proofs.Tables.{any-more}
 use Rattle.net.specs.declared.Entry.{Entry}
 use Rattle.net.specs.Tests.{any, table}
@@ -24,12 +25,12 @@ Inv-loop step n m count found₀ i₀ found i = (count ≡ entryCount step) × (
 abbrev μ-loop : tie.MeasureT-loop
 μ-loop step n m count found₀ i₀ found i = count - i
 
--- an entry's base is below 64
-near : (c : tie.After-entry Inv-loop μ-loop) → c .entry .result .base < 64
+-- an entry's base is below the limit
+near : (c : tie.After-entry Inv-loop μ-loop) → c .entry .result .base < maxBases
 near c =
     let s = c .before .before .before .before .before in
     let at = c .before .before in
-    subst (λ (e : Entry). e .base < 64) (sym (c .entry .ensures))
+    subst (λ (e : Entry). e .base < maxBases) (sym (c .entry .ensures))
     (entry-low (s .args .n) (arcsIn (s .args .step .now)) (s .args .t3) (s .pre) (nthEntry (s .args .step .now) (at .loop .i))
     (mem-table (entryCount (s .args .step .now)) (nthEntry (s .args .step .now)) (at .loop .i) (omega arith)))
 

@@ -5,6 +5,7 @@ use Prim.Native.Nat.{ℕ, suc, _+_, _-_, _*_, _<_, _≤_}
 use lib.ListN.{length, getD, take, drop, set}
 use mathlib.Core.List.{List, [], _∷_, _++_}
 use mathlib.Core.Bool.{Bool, false, Bool·beq}
+use Rattle.net.specs.Limits.{maxBases}
 use Rattle.net.specs.Tests.{sameList}
 use Rattle.firings.proofs.Same.{same-taken}
 use Rattle.firings.proofs.same_flags.Statement.{statement}
@@ -13,7 +14,7 @@ use Rattle.firings.proofs.same_flags.Reads as reads
 use Rattle.firings.proofs.same_flags.Lts as lts
 
 abbrev Inv-loop : tie.InvT-loop
-Inv-loop n a b ok₀ i₀ ok i = (i ≤ n) × (n ≤ 64) × (length a ≡ 64) × (length b ≡ 64) × (ok ≡ sameList Bool·beq (take i a) (take i b))
+Inv-loop n a b ok₀ i₀ ok i = (i ≤ n) × (n ≤ maxBases) × (length a ≡ maxBases) × (length b ≡ maxBases) × (ok ≡ sameList Bool·beq (take i a) (take i b))
 
 abbrev μ-loop : tie.MeasureT-loop
 μ-loop n a b ok₀ i₀ ok i = n - i

@@ -6,6 +6,7 @@ use Prim.Native.Nat.{_-_}
 use native.Mathlib.Omega.{arith}
 use lib.ListN.{set}
 use borrow.Author.Needs.{needs}
+use Rattle.net.specs.Limits.{maxBases}
 use Rattle.marking.proofs.Padding.{clear-flags}
 use Rattle.marking.specs.Form.{clearFrom}
 use Rattle.form.proofs.Zeros.{rest-turn, rest-end}
@@ -16,7 +17,7 @@ abbrev Inv-loop : tie.InvT-loop
 Inv-loop k set clear₀ i₀ clear i = clearFrom k set ≡ (clear && clearFrom i set)
 
 abbrev μ-loop : tie.MeasureT-loop
-μ-loop k set clear₀ i₀ clear i = 64 - i
+μ-loop k set clear₀ i₀ clear i = maxBases - i
 
 is-clear : (c : tie.After-loop Inv-loop μ-loop) → c .before .loop .clear ≡ clearFrom (c .before .before .args .k) (c .before .before .args .t2)
 is-clear c = sym (c .before .loop .inv ∙ rest-end not (c .before .before .args .t2) (c .before .loop .i) (c .before .loop .clear) (omega arith))

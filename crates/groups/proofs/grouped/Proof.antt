@@ -6,6 +6,7 @@ use Prim.Native.Nat.{_-_, _<_, _≤_}
 use native.Mathlib.Omega.{arith}
 use lib.ListN.{drop}
 use borrow.Author.Needs.{needs}
+use Rattle.net.specs.Limits.{maxBases}
 use Rattle.net.specs.declared.Entry.{Entry}
 use Rattle.net.specs.Tests.{table}
 use Rattle.format.specs.Arcs.{entryCount, nthEntry}
@@ -16,17 +17,17 @@ use Rattle.groups.proofs.grouped.Statement.{statement}
 
 abbrev Inv-loop : tie.InvT-loop
 Inv-loop step back labels hit₀ place₀ left₀ hit place left = (left ≤ entryCount step)
-    × (hit ≡ table 64 (firsts there (labelIn labels) (drop left (table (entryCount step) (nthEntry step))) false))
-    × (place ≡ table 64 (firsts (side back) (labelIn labels) (drop left (table (entryCount step) (nthEntry step))) 0))
+    × (hit ≡ table maxBases (firsts there (labelIn labels) (drop left (table (entryCount step) (nthEntry step))) false))
+    × (place ≡ table maxBases (firsts (side back) (labelIn labels) (drop left (table (entryCount step) (nthEntry step))) 0))
 
 abbrev μ-loop : tie.MeasureT-loop
 μ-loop step back labels hit₀ place₀ left₀ hit place left = left
 
--- the entry's base and its label are below 64
-near : (c : tie.After-entry Inv-loop μ-loop) → (c .entry .result .base < 64) × (labelIn (c .before .before .before .before .before .args .t2) (c .entry .result .base) < 64)
+-- the entry's base and its label are below the limit
+near : (c : tie.After-entry Inv-loop μ-loop) → (c .entry .result .base < maxBases) × (labelIn (c .before .before .before .before .before .args .t2) (c .entry .result .base) < maxBases)
 near c =
     let s = c .before .before .before .before .before in
-    subst (λ (e : Entry). (e .base < 64) × (labelIn (s .args .t2) (e .base) < 64)) (sym (c .entry .ensures))
+    subst (λ (e : Entry). (e .base < maxBases) × (labelIn (s .args .t2) (e .base) < maxBases)) (sym (c .entry .ensures))
     (s .pre (c .before .before .loop .left - 1) (omega arith))
 
 entry-count-requires : tie.Need-entry-count-requires Inv-loop μ-loop
@@ -37,8 +38,8 @@ loop-holds c =
     let s = c .before .before in
     let e = c .entry-count .ensures in (
       omega arith,
-      first-none 64 (entryCount (s .args .step .now)) there (labelIn (s .args .t2)) (nthEntry (s .args .step .now)) false (c .entry-count .result) e,
-      first-none 64 (entryCount (s .args .step .now)) (side (s .args .back)) (labelIn (s .args .t2)) (nthEntry (s .args .step .now)) 0 (c .entry-count .result) e,
+      first-none maxBases (entryCount (s .args .step .now)) there (labelIn (s .args .t2)) (nthEntry (s .args .step .now)) false (c .entry-count .result) e,
+      first-none maxBases (entryCount (s .args .step .now)) (side (s .args .back)) (labelIn (s .args .t2)) (nthEntry (s .args .step .now)) 0 (c .entry-count .result) e,
     )
 
 sub-left : tie.Need-sub-left Inv-loop μ-loop
@@ -74,10 +75,10 @@ loop-again c =
     let at = c .before .before .before .before in
     let h = near (c .before .before) in (
       omega arith,
-      first-turn 64 (entryCount (s .args .step .now)) there (labelIn (s .args .t2)) (nthEntry (s .args .step .now)) false (at .loop .left)
+      first-turn maxBases (entryCount (s .args .step .now)) there (labelIn (s .args .t2)) (nthEntry (s .args .step .now)) false (at .loop .left)
           (c .before .before .entry .result) _ _
           (omega arith) (omega arith) (c .before .before .entry .ensures) (h .1) refl (at .loop .inv .1),
-      first-turn 64 (entryCount (s .args .step .now)) (side (s .args .back)) (labelIn (s .args .t2)) (nthEntry (s .args .step .now)) 0 (at .loop .left)
+      first-turn maxBases (entryCount (s .args .step .now)) (side (s .args .back)) (labelIn (s .args .t2)) (nthEntry (s .args .step .now)) 0 (at .loop .left)
           (c .before .before .entry .result) _ _
           (omega arith) (omega arith) (c .before .before .entry .ensures) (h .1) (c .side .ensures) (at .loop .inv .2),
     )
@@ -87,9 +88,9 @@ returns c =
     let s = c .before .before .before .before in
     let at = c .before in
     let e : at .loop .left ≡ 0 = omega arith in
-    let p = first-all 64 (entryCount (s .args .step .now)) there (labelIn (s .args .t2)) (nthEntry (s .args .step .now)) false (at .loop .left) _ e
+    let p = first-all maxBases (entryCount (s .args .step .now)) there (labelIn (s .args .t2)) (nthEntry (s .args .step .now)) false (at .loop .left) _ e
     (at .loop .inv .1) in
-    let q = first-all 64 (entryCount (s .args .step .now)) (side (s .args .back)) (labelIn (s .args .t2)) (nthEntry (s .args .step .now)) 0 (at .loop .left) _ e
+    let q = first-all maxBases (entryCount (s .args .step .now)) (side (s .args .back)) (labelIn (s .args .t2)) (nthEntry (s .args .step .now)) 0 (at .loop .left) _ e
     (at .loop .inv .2) in
     λ i. record { hit = p i; place = q i }
 

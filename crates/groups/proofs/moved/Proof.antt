@@ -7,6 +7,7 @@ use Prim.Native.Nat.{_-_, _≤_}
 use native.Mathlib.Omega.{arith}
 use lib.ListN.{replicate, length, getD, drop}
 use borrow.Author.Needs.{needs}
+use Rattle.net.specs.Limits.{maxBases}
 use Rattle.net.specs.Tests.{table}
 use Rattle.bonds.proofs.Fill.{fill-turn}
 use Rattle.marking.proofs.Padding.{fill-padded}
@@ -15,7 +16,7 @@ use Rattle.groups.proofs.moved.Tie as tie
 use Rattle.groups.proofs.moved.Statement.{statement}
 
 abbrev Inv-loop : tie.InvT-loop
-Inv-loop n labels g new₀ p₀ new p = (p ≤ n) × (new₀ ≡ replicate 64 false) × (length new₀ ≡ 64) ×
+Inv-loop n labels g new₀ p₀ new p = (p ≤ n) × (new₀ ≡ replicate maxBases false) × (length new₀ ≡ maxBases) ×
     (new ≡ table p (λ q. getD (g .hit) (labelIn labels q) false) ++ drop p new₀)
 
 abbrev μ-loop : tie.MeasureT-loop
@@ -56,7 +57,7 @@ loop-again c =
 returns : tie.Need-returns Inv-loop μ-loop
 returns c =
     let s = c .before .before in
-    fill-padded (λ q. getD (s .args .t3 .hit) (labelIn (s .args .t2) q) false) false (c .before .loop .p) (s .args .n) 64 _ _ (c .before .loop .inv .1)
+    fill-padded (λ q. getD (s .args .t3 .hit) (labelIn (s .args .t2) q) false) false (c .before .loop .p) (s .args .n) maxBases _ _ (c .before .loop .inv .1)
     (omega arith) (c .before .loop .inv .3)
 
 pub moved-spec : {M : Type 1} → statement M

@@ -7,6 +7,7 @@ use Prim.Native.Nat.{_-_, _≤_}
 use native.Mathlib.Omega.{arith}
 use lib.ListN.{replicate, length, getD, drop}
 use borrow.Author.Needs.{needs}
+use Rattle.net.specs.Limits.{maxBases}
 use Rattle.net.specs.Tests.{table}
 use Rattle.bonds.proofs.Fill.{fill-turn}
 use Rattle.marking.proofs.Padding.{fill-padded}
@@ -15,7 +16,7 @@ use Rattle.groups.proofs.sent_places.Tie as tie
 use Rattle.groups.proofs.sent_places.Statement.{statement}
 
 abbrev Inv-loop : tie.InvT-loop
-Inv-loop n places labels g may new₀ p₀ new p = (p ≤ n) × (new₀ ≡ replicate 64 0) × (length new₀ ≡ 64) ×
+Inv-loop n places labels g may new₀ p₀ new p = (p ≤ n) × (new₀ ≡ replicate maxBases 0) × (length new₀ ≡ maxBases) ×
     (new ≡ table p (λ q. goesTo g (labelIn labels q) (getD may q false) (getD places q 0)) ++ drop p new₀)
 
 abbrev μ-loop : tie.MeasureT-loop
@@ -69,7 +70,7 @@ returns : tie.Need-returns Inv-loop μ-loop
 returns c =
     let s = c .before .before in
     fill-padded (λ q. goesTo (s .args .t4) (labelIn (s .args .t3) q) (getD (s .args .t5) q false) (getD (s .args .t2) q 0)) 0 (c .before .loop .p) (s .args .n)
-    64 _ _ (c .before .loop .inv .1) (omega arith) (c .before .loop .inv .3)
+    maxBases _ _ (c .before .loop .inv .1) (omega arith) (c .before .loop .inv .3)
 
 pub sent-places-spec : {M : Type 1} → statement M
 sent-places-spec =

@@ -8,6 +8,7 @@ use native.Mathlib.Omega.{arith}
 use lib.Dec.{eqb}
 use lib.ListN.{getD}
 use borrow.Author.Needs.{needs}
+use Rattle.net.specs.Limits.{maxBases}
 use Rattle.net.proofs.Tables.{any-more}
 use Rattle.net.specs.declared.Entry.{Entry}
 use Rattle.net.specs.Tests.{any, table}
@@ -27,11 +28,11 @@ Inv-loop step labels g n found₀ i₀ found i = (n ≡ entryCount step) × (i �
 abbrev μ-loop : tie.MeasureT-loop
 μ-loop step labels g n found₀ i₀ found i = n - i
 
--- an entry's base and its label are below 64
-near : (c : tie.After-entry Inv-loop μ-loop) → (c .entry .result .base < 64) × (labelIn (c .before .before .before .before .before .args .t2) (c .entry .result .base) < 64)
+-- an entry's base and its label are below the limit
+near : (c : tie.After-entry Inv-loop μ-loop) → (c .entry .result .base < maxBases) × (labelIn (c .before .before .before .before .before .args .t2) (c .entry .result .base) < maxBases)
 near c =
     let s = c .before .before .before .before .before in
-    subst (λ (e : Entry). (e .base < 64) × (labelIn (s .args .t2) (e .base) < 64)) (sym (c .entry .ensures)) (s .pre (c .before .before .loop .i) (omega arith))
+    subst (λ (e : Entry). (e .base < maxBases) × (labelIn (s .args .t2) (e .base) < maxBases)) (sym (c .entry .ensures)) (s .pre (c .before .before .loop .i) (omega arith))
 
 entry-count-requires : tie.Need-entry-count-requires Inv-loop μ-loop
 entry-count-requires c κs = search needs

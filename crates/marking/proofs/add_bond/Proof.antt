@@ -5,6 +5,7 @@ use mathlib.Core.Bool.{false}
 use Prim.Native.Nat.{_<_, _≤_}
 use native.Mathlib.Omega.{arith}
 use borrow.Author.Needs.{needs}
+use Rattle.net.specs.Limits.{maxBonds}
 use Rattle.net.specs.declared.Bond.{Bond}
 use Rattle.net.specs.Net.{hasBond, lessBond}
 use Rattle.bonds.proofs.Fill.{count-table}
@@ -26,7 +27,7 @@ absent : (c : tie.Else1) → hasBond (start c .args .b) (bondsOf (start c .args 
 absent c = sym (c .before .has-bond .ensures) ∙ c .if1 .left
 
 -- the rank is at most the number of bonds, and there is room for one more
-fits : (c : tie.After-rank) → (c .rank .result ≤ start (else1 c) .args .t1 .count) × (start (else1 c) .args .t1 .count < 2016)
+fits : (c : tie.After-rank) → (c .rank .result ≤ start (else1 c) .args .t1 .count) × (start (else1 c) .args .t1 .count < maxBonds)
 fits c =
     let s : tie.Start = start (else1 c) in
     let m : Marking = s .args .t1 in

@@ -6,6 +6,7 @@ use Prim.Native.Nat.{_+_, _-_, _≤_}
 use native.Mathlib.Omega.{arith}
 use lib.ListN.{replicate, length, getD, drop}
 use borrow.Author.Needs.{needs}
+use Rattle.net.specs.Limits.{maxBonds}
 use Rattle.net.specs.Tests.{table}
 use Rattle.bonds.proofs.Fill.{fill-turn}
 use Rattle.marking.proofs.Padding.{fill-padded}
@@ -14,7 +15,7 @@ use Rattle.marking.proofs.inserted.Tie as tie
 use Rattle.marking.proofs.inserted.Statement.{statement}
 
 abbrev Inv-loop : tie.InvT-loop
-Inv-loop a n k x new₀ j₀ new j = (j ≤ n + 1) × (new₀ ≡ replicate 2016 0) × (length new₀ ≡ 2016) × (new ≡ table j (slot k x (λ i. getD a i 0)) ++ drop j new₀)
+Inv-loop a n k x new₀ j₀ new j = (j ≤ n + 1) × (new₀ ≡ replicate maxBonds 0) × (length new₀ ≡ maxBonds) × (new ≡ table j (slot k x (λ i. getD a i 0)) ++ drop j new₀)
 
 abbrev μ-loop : tie.MeasureT-loop
 μ-loop a n k x new₀ j₀ new j = n + 1 - j
@@ -40,7 +41,7 @@ loop-again c =
     (search needs, search needs, search needs, fill-turn _ (at .loop .j) _ _ 0 _ (omega arith) (c .at-slot .ensures) (at .loop .inv .3))
 
 returns : tie.Need-returns Inv-loop μ-loop
-returns c = fill-padded _ 0 (c .before .loop .j) (c .before .before .before .args .n + 1) 2016 _ _ (c .before .loop .inv .1) (omega arith) (c .before .loop .inv .3)
+returns c = fill-padded _ 0 (c .before .loop .j) (c .before .before .before .args .n + 1) maxBonds _ _ (c .before .loop .inv .1) (omega arith) (c .before .loop .inv .3)
 
 pub inserted-spec : {M : Type 1} → statement M
 inserted-spec =

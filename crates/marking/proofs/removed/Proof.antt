@@ -6,6 +6,7 @@ use Prim.Native.Nat.{_-_, _≤_}
 use native.Mathlib.Omega.{arith}
 use lib.ListN.{replicate, length, getD, drop}
 use borrow.Author.Needs.{needs}
+use Rattle.net.specs.Limits.{maxBonds}
 use Rattle.net.specs.Tests.{table}
 use Rattle.bonds.proofs.Fill.{fill-turn}
 use Rattle.marking.proofs.Padding.{fill-padded}
@@ -14,7 +15,7 @@ use Rattle.marking.proofs.removed.Tie as tie
 use Rattle.marking.proofs.removed.Statement.{statement}
 
 abbrev Inv-loop : tie.InvT-loop
-Inv-loop a n k last kept₀ j₀ kept j = (j ≤ last) × (kept₀ ≡ replicate 2016 0) × (length kept₀ ≡ 2016) × (kept ≡ table j (gap k (λ i. getD a i 0)) ++ drop j kept₀)
+Inv-loop a n k last kept₀ j₀ kept j = (j ≤ last) × (kept₀ ≡ replicate maxBonds 0) × (length kept₀ ≡ maxBonds) × (kept ≡ table j (gap k (λ i. getD a i 0)) ++ drop j kept₀)
 
 abbrev μ-loop : tie.MeasureT-loop
 μ-loop a n k last kept₀ j₀ kept j = last - j
@@ -43,7 +44,7 @@ loop-again c =
     (search needs, search needs, search needs, fill-turn _ (at .loop .j) _ _ 0 _ (omega arith) (c .at-gap .ensures) (at .loop .inv .3))
 
 returns : tie.Need-returns Inv-loop μ-loop
-returns c = fill-padded _ 0 (c .before .loop .j) (c .before .before .before .args .n - 1) 2016 _ _ (c .before .loop .inv .1) (omega arith) (c .before .loop .inv .3)
+returns c = fill-padded _ 0 (c .before .loop .j) (c .before .before .before .args .n - 1) maxBonds _ _ (c .before .loop .inv .1) (omega arith) (c .before .loop .inv .3)
 
 pub removed-spec : {M : Type 1} → statement M
 removed-spec =

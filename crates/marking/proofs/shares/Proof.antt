@@ -5,6 +5,7 @@ use Prim.Native.Nat.{_-_, _≤_}
 use native.Mathlib.Omega.{arith}
 use lib.ListN.{length}
 use borrow.Author.Needs.{needs}
+use Rattle.net.specs.Limits.{maxBases}
 use Rattle.net.proofs.Tables.{any-more}
 use Rattle.net.specs.Tests.{any, table}
 use Rattle.marking.proofs.Sets.{self, shared, common-table}
@@ -12,10 +13,10 @@ use Rattle.marking.proofs.shares.Tie as tie
 use Rattle.marking.proofs.shares.Statement.{statement}
 
 abbrev Inv-loop : tie.InvT-loop
-Inv-loop a b found₀ i₀ found i = (i ≤ 64) × (found ≡ any self (table i (shared a b)))
+Inv-loop a b found₀ i₀ found i = (i ≤ maxBases) × (found ≡ any self (table i (shared a b)))
 
 abbrev μ-loop : tie.MeasureT-loop
-μ-loop a b found₀ i₀ found i = 64 - i
+μ-loop a b found₀ i₀ found i = maxBases - i
 
 loop-holds : tie.Need-loop-holds Inv-loop μ-loop
 loop-holds c = (search needs, refl)

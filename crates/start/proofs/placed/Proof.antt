@@ -6,6 +6,7 @@ use Prim.Native.Nat.{_-_, _≤_}
 use native.Mathlib.Omega.{arith}
 use lib.ListN.{replicate, length, getD, drop}
 use borrow.Author.Needs.{needs}
+use Rattle.net.specs.Limits.{maxBases}
 use Rattle.net.proofs.Tables.{table-list}
 use Rattle.net.specs.Tests.{table}
 use Rattle.bonds.proofs.Fill.{fill-turn}
@@ -15,7 +16,7 @@ use Rattle.start.proofs.placed.Tie as tie
 use Rattle.start.proofs.placed.Statement.{statement}
 
 abbrev Inv-loop : tie.InvT-loop
-Inv-loop s places₀ i₀ places i = (i ≤ length s) × (places₀ ≡ replicate 64 0) × (length places₀ ≡ 64) × (places ≡ table i (λ j. getD s j 0) ++ drop i places₀)
+Inv-loop s places₀ i₀ places i = (i ≤ length s) × (places₀ ≡ replicate maxBases 0) × (length places₀ ≡ maxBases) × (places ≡ table i (λ j. getD s j 0) ++ drop i places₀)
 
 abbrev μ-loop : tie.MeasureT-loop
 μ-loop s places₀ i₀ places i = length s - i
@@ -48,9 +49,9 @@ loop-again c =
 returns : tie.Need-returns Inv-loop μ-loop
 returns c =
     let s = c .before .before in
-    fill-padded (λ j. getD (s .args .s .now) j 0) 0 (c .before .loop .i) (length (s .args .s .now)) 64 _ _ (c .before .loop .inv .1) (omega arith)
+    fill-padded (λ j. getD (s .args .s .now) j 0) 0 (c .before .loop .i) (length (s .args .s .now)) maxBases _ _ (c .before .loop .inv .1) (omega arith)
     (c .before .loop .inv .3)
-    ∙ ap (padded 64) (table-list (s .args .s .now) 0)
+    ∙ ap (padded maxBases) (table-list (s .args .s .now) 0)
 
 pub placed-spec : {M : Type 1} → statement M
 placed-spec =

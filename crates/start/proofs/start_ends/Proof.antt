@@ -6,6 +6,7 @@ use Prim.Native.Nat.{_-_, _≤_}
 use native.Mathlib.Omega.{arith}
 use lib.ListN.{replicate, length, drop}
 use borrow.Author.Needs.{needs}
+use Rattle.net.specs.Limits.{maxBonds}
 use Rattle.net.specs.declared.Bond.{Bond}
 use Rattle.net.specs.Tests.{table}
 use Rattle.format.specs.NetOf.{startBondCount, nthStartBond}
@@ -16,8 +17,8 @@ use Rattle.start.proofs.start_ends.Tie as tie
 use Rattle.start.proofs.start_ends.Statement.{statement}
 
 abbrev Inv-loop : tie.InvT-loop
-Inv-loop sheet count lo₀ hi₀ i₀ lo hi i = (count ≡ startBondCount sheet) × (i ≤ count) × (lo₀ ≡ replicate 2016 0) × (length lo₀ ≡ 2016) ×
-    (hi₀ ≡ replicate 2016 0) × (length hi₀ ≡ 2016)
+Inv-loop sheet count lo₀ hi₀ i₀ lo hi i = (count ≡ startBondCount sheet) × (i ≤ count) × (lo₀ ≡ replicate maxBonds 0) × (length lo₀ ≡ maxBonds) ×
+    (hi₀ ≡ replicate maxBonds 0) × (length hi₀ ≡ maxBonds)
     × (lo ≡ table i (λ j. nthStartBond sheet j .lo) ++ drop i lo₀) × (hi ≡ table i (λ j. nthStartBond sheet j .hi) ++ drop i hi₀)
 
 abbrev μ-loop : tie.MeasureT-loop
@@ -68,10 +69,10 @@ returns : tie.Need-returns Inv-loop μ-loop
 returns c =
     let at = c .before in
     let s = (c .before .before .before .before) in let k = startBondCount (s .args .sheet .now) in let f = nthStartBond (s .args .sheet .now) in (
-      fill-padded (λ j. f j .lo) 0 (at .loop .i) k 2016 _ _ (at .loop .inv .2) (omega arith) (at .loop .inv .6)
-          ∙ ap (padded 2016) (sym (map-table (λ (d : Bond). d .lo) k f)),
-      fill-padded (λ j. f j .hi) 0 (at .loop .i) k 2016 _ _ (at .loop .inv .4) (omega arith) (at .loop .inv .7)
-          ∙ ap (padded 2016) (sym (map-table (λ (d : Bond). d .hi) k f)),
+      fill-padded (λ j. f j .lo) 0 (at .loop .i) k maxBonds _ _ (at .loop .inv .2) (omega arith) (at .loop .inv .6)
+          ∙ ap (padded maxBonds) (sym (map-table (λ (d : Bond). d .lo) k f)),
+      fill-padded (λ j. f j .hi) 0 (at .loop .i) k maxBonds _ _ (at .loop .inv .4) (omega arith) (at .loop .inv .7)
+          ∙ ap (padded maxBonds) (sym (map-table (λ (d : Bond). d .hi) k f)),
     )
 
 pub start-ends-spec : {M : Type 1} → statement M
