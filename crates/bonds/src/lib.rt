@@ -1,8 +1,7 @@
 // Bonds where they lie, in two lent slices of ends: whether a bond is there, its place in the order, and the labels
 // that say which bases are connected. Nothing is copied.
 ghost use mathlib.Core.Path.{_≡_};
-ghost use mathlib.Core.Bool.{Bool};
-ghost use mathlib.Core.List.{List, map};
+ghost use mathlib.Core.List.{map};
 ghost use Prim.Native.Nat.{ℕ, _+_, _<_, _≤_};
 ghost use lib.ListN.{length, getD};
 ghost use Rattle.net.specs.Limits.{maxBases};

@@ -9,8 +9,7 @@ use borrow.Author.Tests.{eqb-true, eq-eqb}
 use Rattle.causal.proofs.Tests.{test, both}
 use Rattle.net.specs.Tests.{pick, all}
 use Rattle.net.specs.Checks.{Check, check, clear, first}
-use Rattle.net.specs.Journal as J
-use Rattle.net.specs.Journal.{kindOf, transitionNamed, keyNamed, fireReply, undoReply, checks, kindChecks, fireChecks, undoChecks}
+use Rattle.net.specs.Journal.{kindOf, transitionNamed, keyNamed, fireReply, undoReply, checks, fireChecks, undoChecks}
 use Rattle.net.proofs.Tests.{all-append}
 use Rattle.format.specs.NetOf.{netOf}
 use Rattle.sheet.specs.Checks.{sheetChecks}
@@ -19,7 +18,7 @@ use Rattle.tally.specs.Counts.{countedOf}
 use Rattle.tally.specs.declared.Tally.{Tally}
 use Rattle.session.specs.declared.Record.{Record}
 use Rattle.session.specs.Records.{heldIn, soundFor}
-use Rattle.session.specs.Commands.{refusal, answerNumber, countOf, outcomeOf, acceptOf, commandChecks, Result, outcomeFor, commandOf}
+use Rattle.session.specs.Commands.{refusal, answerNumber, countOf, outcomeOf, acceptOf, commandChecks, outcomeFor, commandOf}
 use Rattle.session.specs.declared.Answer.{Answer}
 use Rattle.session.specs.declared.Answer.the-variants.{Fired, Undone, Refused}
 use Rattle.session.specs.declared.Outcome.{Outcome}

@@ -1,11 +1,11 @@
 -- Fired less undone is the number of live firings, over a fresh session of at most 65,535 commands.
 -- Assumes an accepted sheet.
 use mathlib.Core.Path.{_≡_, refl, sym, _∙_, ap}
-use mathlib.Core.Bool.{Bool, true, false, not, _&&_}
+use mathlib.Core.Bool.{Bool, true, false, not}
 use mathlib.Core.List.{List, [], _∷_, _++_}
-use Prim.Native.Nat.{ℕ, suc, _+_, _<_, _≤_}
+use Prim.Native.Nat.{ℕ, _+_, _<_, _≤_}
 use native.Mathlib.Omega.{arith}
-use lib.Dec.{eqb, ltb}
+use lib.Dec.{eqb}
 use lib.ListN.{length, length-append}
 use borrow.Author.Tests.{not-false, lt-ltb}
 use Rattle.net.specs.Limits.{maxBases}
@@ -13,7 +13,7 @@ use Rattle.net.specs.Tests.{pick}
 use Rattle.net.specs.Rules.{netRule}
 use Rattle.net.specs.Checks.{clear, first}
 use Rattle.net.specs.Net.{Net}
-use Rattle.net.specs.Journal.{LiveLine, Journal, Reply, isLive, lineOf, without, kindOf, fireChecks, undoChecks, kindChecks, checks, transitionNamed, keyNamed, fireReply, undoReply, refuse, begin, act, play}
+use Rattle.net.specs.Journal.{LiveLine, Journal, Reply, isLive, lineOf, without, kindOf, fireChecks, undoChecks, checks, transitionNamed, keyNamed, fireReply, undoReply, refuse, begin, act, play}
 use Rattle.net.specs.declared.Key.{Key}
 use Rattle.net.proofs.Tests.{pick-case}
 use Rattle.net.proofs.Checks.{clear-off}
@@ -27,7 +27,7 @@ use Rattle.tally.specs.Counts.{maxCount, oneMore, countedOf}
 use Rattle.tally.specs.declared.Tally.{Tally}
 use Rattle.session.specs.Records.{recordOf}
 use Rattle.session.specs.declared.Record.{Record}
-use Rattle.session.specs.Commands.{answerOf, countOf, outcomeOf, outcomeFor, commandOf, freshOf}
+use Rattle.session.specs.Commands.{answerOf, countOf, commandOf, freshOf}
 use Rattle.session.specs.Runs.{Session, runOf}
 use Rattle.session.specs.declared.Outcome.{Outcome}
 use Rattle.session.proofs.Steps.{step, follows-fresh}

@@ -1,16 +1,13 @@
 -- Demand 3: a whole list of commands on an accepted sheet, from a fresh record.
 -- Assumes an accepted sheet.
-use mathlib.Core.Path.{_≡_, refl, sym, _∙_, ap}
+use mathlib.Core.Path.{_≡_, _∙_, ap}
 use mathlib.Core.Bool.{true}
 use mathlib.Core.List.{List, map}
 use Prim.Native.Nat.{ℕ, _≤_}
-use Rattle.causal.specs.Reorderings.{Reordering}
 use Rattle.net.specs.Limits.{maxBases}
 use Rattle.net.specs.Rules.{netRule}
 use Rattle.net.specs.Checks.{clear}
-use Rattle.net.specs.Firing.{inSet}
-use Rattle.net.specs.Journal as J
-use Rattle.net.specs.Journal.{LiveLine, Journal, begin}
+use Rattle.net.specs.Journal.{LiveLine}
 use Rattle.net.specs.Claims as N
 use Rattle.net.specs.Claims.{fireCommands}
 use Rattle.net.proofs.Demand3 as N′

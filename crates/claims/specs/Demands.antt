@@ -4,8 +4,8 @@
 -- Not stated here: that a call reads and writes nothing outside what it was lent. That is the checker's own part: it
 -- proves of every function that each index is within its slice or array.
 use mathlib.Core.Path.{_≡_}
-use mathlib.Core.Bool.{Bool, true, false}
-use mathlib.Core.List.{List, [], _∷_, _++_, map}
+use mathlib.Core.Bool.{true, false}
+use mathlib.Core.List.{List, _∷_, _++_, map}
 use Prim.Native.Nat.{ℕ, _+_, _≤_}
 use lib.Dec.{eqb}
 use lib.ListN.{length}
@@ -22,9 +22,8 @@ use Rattle.tally.specs.declared.Tally.{Tally}
 use Rattle.session.specs.Records.{recordOf}
 use Rattle.session.specs.declared.Record.{Record}
 use Rattle.session.specs.Records.{heldIn}
-use Rattle.session.specs.Commands.{freshOf, refusal, answerNumber, outcomeOf, commandChecks, Result, commandOf}
+use Rattle.session.specs.Commands.{freshOf, refusal, answerNumber, outcomeOf, commandChecks, commandOf}
 use Rattle.session.specs.Runs.{answered, Session, runOf}
-use Rattle.session.specs.declared.Answer.{Answer}
 use Rattle.session.specs.declared.Answer.the-variants.{Refused}
 
 -- ---- Demand 1: every sheet, record and command, however mangled, is answered by acceptance or by one number

@@ -1,7 +1,6 @@
 // Whether a marking enables a transition (document 01, refusals 13 to 16), and which bases the transition moves.
 // The transition is read from its bytes in the caller's sheet. Every entry and bond is looked at: no early exit.
 ghost use mathlib.Core.Path.{_≡_};
-ghost use mathlib.Core.Bool.{Bool};
 ghost use Prim.Native.Nat.{ℕ, _<_, _≤_};
 ghost use Rattle.net.specs.Limits.{maxBonds};
 ghost use Rattle.net.specs.Net.{hasBond};

@@ -1,8 +1,8 @@
 // Firing a transition and taking it back (document 01), on a marking by value, in its form before and after.
 // The transition is read from its bytes in the caller's sheet.
 ghost use mathlib.Core.Path.{_≡_};
-ghost use mathlib.Core.Bool.{Bool, not};
-ghost use Prim.Native.Nat.{ℕ, _<_, _≤_};
+ghost use mathlib.Core.Bool.{not};
+ghost use Prim.Native.Nat.{_<_};
 ghost use Rattle.net.specs.Tests.{keep};
 ghost use Rattle.net.specs.Sorted.{puts};
 ghost use Rattle.net.specs.Net.{sameBond, lessBond};

@@ -1,7 +1,7 @@
 -- Live firings in their form are laid out as their lines are: one firing more, and the whole array.
 -- Assumes nothing.
 use mathlib.Core.Path.{_≡_, refl, sym, _∙_, ap}
-use mathlib.Core.Bool.{Bool, true, false, _&&_}
+use mathlib.Core.Bool.{true}
 use mathlib.Core.List.{List, [], _∷_, _++_, map}
 use Prim.Native.Nat.{ℕ, zero, suc, _+_, _-_, _<_, _≤_}
 use native.Mathlib.Omega.{arith}
@@ -11,14 +11,12 @@ use lib.ListN.{length, getD, take, replicate, length-append, length-map, length-
 use lib.Seq.{ext-getD, getD-append-add}
 use borrow.Author.Tests.{eqb-true, eqb-false, ltb-true, ltb-false}
 use Rattle.causal.proofs.Tests.{test}
-use Rattle.net.specs.Limits.{maxBases, maxLive}
-use Rattle.net.specs.Tests.{table}
+use Rattle.net.specs.Limits.{maxLive}
 use Rattle.net.specs.Journal.{LiveLine, key, noLine}
-use Rattle.net.proofs.Tests.{and-l, and-r}
 use Rattle.net.proofs.Tables.{length-table, getD-table}
 use Rattle.marking.specs.Form.{flags}
 use Rattle.firings.specs.Lines.{past, lineOf, linesIn, noFiring, firingOf, firingsOf}
-use Rattle.firings.specs.Form.{isNoFiring, AsLines, Unused}
+use Rattle.firings.specs.Form.{AsLines, Unused}
 use Rattle.firings.specs.declared.Firing.{Firing}
 
 -- a firing whose flags are those of its first n

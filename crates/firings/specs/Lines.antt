@@ -1,7 +1,7 @@
 -- The live firings of a record (01, commands, record, tally) and the lines of a journal, each as the other has it.
 -- Definitions only. n is the number of bases; the first k entries of an array are live.
 use mathlib.Core.Bool.{false}
-use mathlib.Core.List.{List, [], _∷_, _++_, map}
+use mathlib.Core.List.{List, [], _++_, map}
 use Prim.Native.Nat.{ℕ, _-_}
 use lib.ListN.{length, getD, take, replicate}
 use Rattle.net.specs.Limits.{maxBases, maxLive}

@@ -4,7 +4,7 @@ use mathlib.Core.Bool.{Bool, _&&_}
 use mathlib.Core.List.{List, [], _∷_}
 use Prim.Native.Nat.{ℕ, suc, _-_}
 use lib.Dec.{eqb, ltb}
-use lib.ListN.{getD, take}
+use lib.ListN.{getD}
 use Rattle.net.specs.Tests.{pick, any}
 use Rattle.net.specs.Journal.{common}
 use Rattle.firings.specs.Lines.{past}

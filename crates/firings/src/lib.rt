@@ -5,7 +5,7 @@ ghost use mathlib.Core.Bool.{Bool, true, Bool·beq};
 ghost use mathlib.Core.List.{[], _∷_};
 ghost use Prim.Native.Nat.{_+_, _<_, _≤_};
 ghost use lib.Dec.{ltb};
-ghost use lib.ListN.{drop, take, getD, length};
+ghost use lib.ListN.{take, getD, length};
 ghost use Rattle.net.specs.Limits.{maxBases, maxLive};
 ghost use Rattle.net.specs.Tests.{pick, sameList};
 ghost use Rattle.firings.specs.Lines.{past, noFiring, closedUp};

@@ -1,8 +1,8 @@
 // The form of a marking (document 01, the record: unused entries hold 0) as a test, and whether two markings or
 // two sets of bases are the same. Every entry is looked at: no early exit within an array.
 ghost use mathlib.Core.Path.{_≡_};
-ghost use mathlib.Core.Bool.{Bool, true};
-ghost use Prim.Native.Nat.{ℕ, _≤_};
+ghost use mathlib.Core.Bool.{true};
+ghost use Prim.Native.Nat.{_≤_};
 ghost use lib.Dec.{eqb};
 ghost use lib.ListN.{length, take};
 ghost use Rattle.net.specs.Limits.{maxBases, maxBonds};

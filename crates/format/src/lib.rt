@@ -2,7 +2,6 @@
 // specs/ says what the bytes mean, up to the net that they describe; which sheets are accepted is the crate sheet's.
 ghost use mathlib.Core.Path.{_≡_};
 ghost use Prim.Native.Nat.{_+_, _*_, _<_, _≤_};
-ghost use mathlib.Core.Bool.{Bool};
 ghost use lib.ListN.{length};
 ghost use Rattle.net.specs.Net.{lessBond};
 ghost use Rattle.format.specs.Bytes.{outside, byteAt, wordAt, baseAt, entryAt, bondAt, entryWidth, bondWidth};

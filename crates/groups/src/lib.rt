@@ -1,10 +1,10 @@
 // Bases grouped by label, as a firing or a taking back moves them: one pass over the entries, one over the bases.
 // The label of a group stands for it: hit[x] and place[x] are those of the group with label x.
 ghost use mathlib.Core.Path.{_≡_};
-ghost use mathlib.Core.Bool.{Bool, true, false, not};
+ghost use mathlib.Core.Bool.{true, false, not};
 ghost use Prim.Native.Nat.{ℕ, _+_, _<_, _≤_};
 ghost use lib.Dec.{eqb};
-ghost use lib.ListN.{length, getD};
+ghost use lib.ListN.{getD};
 ghost use Rattle.net.specs.Limits.{maxBases};
 ghost use Rattle.net.specs.Tests.{pick, any, table};
 ghost use Rattle.net.specs.declared.Entry.{Entry};

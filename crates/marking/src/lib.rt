@@ -1,13 +1,13 @@
 // A marking by value: the places of the bases, and the bonds in ascending order; unused entries are 0.
 // Bonds go in and out at their place in the order. Sets of bases are arrays of flags.
 ghost use mathlib.Core.Path.{_≡_};
-ghost use mathlib.Core.Bool.{Bool, not};
-ghost use Prim.Native.Nat.{ℕ, _+_, _-_, _<_, _≤_};
+ghost use mathlib.Core.Bool.{not};
+ghost use Prim.Native.Nat.{_+_, _-_, _<_, _≤_};
 ghost use lib.ListN.{length, getD};
 ghost use Rattle.net.specs.Limits.{maxBonds};
 ghost use Rattle.net.specs.Tests.{keep, table};
-ghost use Rattle.net.specs.Sorted.{Ascending, put};
-ghost use Rattle.net.specs.Net.{sameBond, lessBond, hasBond};
+ghost use Rattle.net.specs.Sorted.{put};
+ghost use Rattle.net.specs.Net.{sameBond, lessBond};
 ghost use Rattle.net.specs.Journal.{common};
 ghost use Rattle.marking.specs.Shift.{slot, gap};
 ghost use Rattle.marking.specs.Form.{padded, bondsOf, withBonds, InOrder};

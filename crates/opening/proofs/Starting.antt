@@ -1,12 +1,12 @@
 -- Starting a session: one law for each return.
 -- Assumes nothing.
-use mathlib.Core.Path.{_≡_, refl, sym, _∙_, ap}
-use mathlib.Core.Bool.{Bool, true, false}
-use mathlib.Core.List.{List, []}
+use mathlib.Core.Path.{_≡_, sym, _∙_, ap}
+use mathlib.Core.Bool.{Bool, false}
+use mathlib.Core.List.{List}
 use Prim.Native.Nat.{ℕ}
 use lib.Dec.{eqb}
 use lib.ListN.{replicate}
-use borrow.Author.Tests.{eq-eqb, ne-eqb}
+use borrow.Author.Tests.{ne-eqb}
 use Rattle.net.specs.Limits.{maxBases, maxBonds, maxLive}
 use Rattle.net.specs.Tests.{pick}
 use Rattle.net.specs.Checks.{clear, first}
@@ -21,7 +21,6 @@ use Rattle.firings.specs.declared.Firing.{Firing}
 use Rattle.session.specs.Records.{recordOf}
 use Rattle.session.specs.Commands.{freshOf, zeroRecord, startOf}
 use Rattle.session.specs.declared.Record.{Record}
-use Rattle.session.specs.declared.Start.{Start}
 use Rattle.session.specs.declared.StartAnswer.the-variants.{Started, NotStarted}
 use Rattle.session.proofs.Answering.{sheet-positive, sheet-clear}
 

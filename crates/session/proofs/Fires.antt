@@ -22,15 +22,13 @@ use Rattle.format.specs.NetOf.{netOf}
 use Rattle.sheet.proofs.Order.{first-append}
 use Rattle.marking.specs.Form.{markingOf, laid, flags}
 use Rattle.marking.specs.declared.Marking.{Marking}
-use Rattle.firings.specs.Lines.{firingOf, firingsOf}
+use Rattle.firings.specs.Lines.{firingsOf}
 use Rattle.firings.specs.Search.{lastKey}
-use Rattle.firings.specs.declared.Firing.{Firing}
 use Rattle.firings.proofs.Changes.{with-line}
 use Rattle.sound.proofs.Lines.{enabled-first, enabled-listed}
 use Rattle.session.specs.Records.{heldIn, recordOf, Sound}
 use Rattle.session.specs.Commands.{refusal, outcomeOf, fireOutcome}
 use Rattle.session.specs.declared.Record.{Record}
-use Rattle.session.specs.declared.Outcome.{Outcome}
 use Rattle.session.specs.declared.Answer.the-variants.{Fired}
 use Rattle.session.proofs.Sounds.{held, live-is, firings-are, last-given}
 

@@ -1,16 +1,16 @@
 -- What a session holds lies in a record whole: places, bonds, lines and flags fit their arrays.
 -- Assumes that the net meets the sheet's rules and has no more bases than the limit.
-use mathlib.Core.Path.{_≡_, refl, sym, _∙_, ap}
+use mathlib.Core.Path.{_≡_, _∙_, ap}
 use mathlib.Core.Logic.{inl, inr}
 use mathlib.Core.Bool.{true}
 use mathlib.Core.List.{List, [], _∷_}
-use Prim.Native.Nat.{ℕ, _≤_, _*_, _-_}
+use Prim.Native.Nat.{_≤_, _*_, _-_}
 use native.Mathlib.Omega.{arith}
 use native.Mathlib.Nat.{mul-le-mul}
 use lib.ListN.{length}
 use Rattle.causal.specs.Lists.{Mem}
 use Rattle.causal.specs.Runs.{Run}
-use Rattle.net.specs.Limits.{maxBases, maxBonds}
+use Rattle.net.specs.Limits.{maxBases}
 use Rattle.net.specs.Net.{Marking, Net, arcsOf}
 use Rattle.net.specs.Rules.{netRule}
 use Rattle.net.specs.Firing.{moves, Fires}

@@ -1,28 +1,22 @@
 -- A journal in the record's form is read back whole, and has the form.
 -- Assumes nothing.
-use mathlib.Core.Path.{_≡_, refl, sym, _∙_, ap}
-use mathlib.Core.Bool.{Bool, true, false, not, _&&_}
-use mathlib.Core.List.{List, [], _∷_, _++_, map}
-use Prim.Native.Nat.{ℕ, _<_, _≤_, _-_}
-use native.Mathlib.Omega.{arith}
-use lib.Dec.{eqb, leb}
-use lib.ListN.{length, getD, take, drop, replicate, length-map}
+use mathlib.Core.Path.{_≡_, refl}
+use mathlib.Core.Bool.{true, false, not}
+use mathlib.Core.List.{map}
+use Prim.Native.Nat.{ℕ, _≤_, _-_}
+use lib.ListN.{length, take, drop, replicate, length-map}
 use lib.Seq.{take-at, drop-at}
 use borrow.Author.Tests.{le-leb}
 use Rattle.causal.specs.Lists.{Mem}
 use Rattle.net.specs.Limits.{maxBases, maxBonds, maxLive}
 use Rattle.net.specs.Tests.{all, table}
-use Rattle.net.specs.Net as Net
 use Rattle.net.specs.Journal.{LiveLine, Journal}
-use Rattle.net.specs.declared.Bond.{Bond}
-use Rattle.net.proofs.Tests.{and-i, all-i}
 use Rattle.marking.proofs.Forms.{marking-laid, laid-in-form}
 use Rattle.firings.specs.Lines.{past, lineOf, noFiring, firingOf}
 use Rattle.firings.specs.Form.{unset, isNoFiring}
 use Rattle.sound.specs.Soundness.{journalIn, formed}
 use Rattle.session.specs.Records.{recordOf}
 use Rattle.firings.specs.declared.Firing.{Firing}
-use Rattle.session.specs.declared.Record.{Record}
 use Rattle.firings.proofs.Lists.{all-replicate, all-map, table-back}
 
 -- ---- a journal

@@ -8,16 +8,15 @@ use Prim.Native.Nat.{ℕ, zero, suc, _-_, _<_, _≤_}
 use native.Mathlib.Omega.{arith}
 use lib.Dec.{eqb, ltb}
 use lib.ListN.{length, getD, replicate}
-use borrow.Author.Tests.{eqb-true, lt-ltb}
+use borrow.Author.Tests.{eqb-true}
 use Rattle.causal.specs.Lists.{Mem}
 use Rattle.net.specs.Limits.{maxBases}
-use Rattle.net.specs.Tests.{pick, any}
+use Rattle.net.specs.Tests.{pick}
 use Rattle.net.specs.Journal as J
 use Rattle.net.specs.Journal.{LiveLine, sameKey, isLive, common, builtOn}
 use Rattle.net.specs.declared.Key.{Key}
 use Rattle.firings.specs.Lines.{firingOf}
 use Rattle.firings.specs.Search.{placeOf, builtOnIn}
-use Rattle.firings.specs.declared.Firing.{Firing}
 
 abbrev pub keysOf : List LiveLine → List ℕ
 keysOf ls = map (λ (l : LiveLine). l .key .0) ls

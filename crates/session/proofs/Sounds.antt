@@ -1,22 +1,18 @@
 -- What a sound record gives an inner command: a held journal, a good marking in its form, the last key.
 -- Assumes a sound record on an accepted sheet.
 use mathlib.Core.Path.{_≡_, refl, sym, _∙_, ap, subst}
-use mathlib.Core.Logic.{inl, inr}
-use mathlib.Core.Bool.{Bool, true, false, not, _&&_}
+use mathlib.Core.Bool.{Bool, true}
 use mathlib.Core.List.{List, [], _∷_, _++_}
-use Prim.Native.Nat.{ℕ, zero, suc, _+_, _-_, _<_, _≤_, max}
+use Prim.Native.Nat.{ℕ, zero, suc, _+_, _-_, _≤_}
 use native.Mathlib.Omega.{arith}
-use lib.Dec.{eqb}
 use lib.ListN.{length, getD}
-use borrow.Author.Tests.{eq-eqb, ne-eqb}
-use Rattle.causal.specs.Lists.{Mem}
+use borrow.Author.Tests.{ne-eqb}
 use Rattle.causal.proofs.Lists.{mem-mid}
 use Rattle.net.specs.Limits.{maxBases, maxLive}
 use Rattle.net.specs.Tests.{pick, table}
-use Rattle.net.specs.Net.{Net}
 use Rattle.net.specs.Rules.{netRule}
 use Rattle.net.specs.Marking.{Good}
-use Rattle.net.specs.Journal.{LiveLine, Journal, highestLive, lastGiven}
+use Rattle.net.specs.Journal.{LiveLine, highestLive}
 use Rattle.net.specs.History.{sound}
 use Rattle.net.proofs.Tests.{and-r}
 use Rattle.net.proofs.Tables.{length-table, table-snoc}
@@ -27,7 +23,6 @@ use Rattle.net.proofs.Totals.{held-totals}
 use Rattle.format.specs.Parts.{basesOf}
 use Rattle.format.specs.NetOf.{netOf}
 use Rattle.sheet.proofs.Accepted.{promised}
-use Rattle.marking.specs.Form.{markingOf, laid}
 use Rattle.firings.specs.Lines.{past, lineOf, linesIn, firingsOf}
 use Rattle.firings.specs.Search.{lastKey}
 use Rattle.firings.specs.declared.Firing.{Firing}

@@ -1,23 +1,21 @@
 -- A command on a record that holds a journal does what it does to the journal, and a list of commands likewise.
 -- Assumes an accepted sheet.
-use mathlib.Core.Path.{_≡_, refl, sym, _∙_, ap}
+use mathlib.Core.Path.{_≡_, refl, _∙_, ap}
 use mathlib.Core.Bool.{Bool, true, false, not, _&&_}
 use mathlib.Core.List.{List, [], _∷_, _++_, map}
 use Prim.Native.Nat.{ℕ, _≤_}
 use lib.Dec.{eqb}
 use Rattle.net.specs.Limits.{maxBases}
 use Rattle.net.specs.Tests.{pick}
-use Rattle.net.specs.Net.{Net}
 use Rattle.net.specs.Rules.{netRule}
 use Rattle.net.specs.Checks.{Check, check, clear, first}
-use Rattle.net.specs.Journal as J
-use Rattle.net.specs.Journal.{Journal, Reply, kindOf, transitionNamed, keyNamed, fireReply, undoReply, refuse, checks, act, play, answers, begin}
+use Rattle.net.specs.Journal.{Journal, kindOf, transitionNamed, keyNamed, fireReply, undoReply, refuse, checks, act, play, answers, begin}
 use Rattle.net.specs.History.{sound}
 use Rattle.causal.proofs.Tests.{both}
 use Rattle.net.proofs.Tests.{and-i}
 use Rattle.net.proofs.Checks.{clear-append}
 use Rattle.net.proofs.Journal.{Held, act-held, begin-held}
-use Rattle.net.proofs.History.{held-sound, sound-held}
+use Rattle.net.proofs.History.{held-sound}
 use Rattle.format.specs.Parts.{basesOf}
 use Rattle.format.specs.NetOf.{netOf}
 use Rattle.sheet.specs.Checks.{sheetChecks}
@@ -26,8 +24,8 @@ use Rattle.tally.specs.declared.Tally.{Tally}
 use Rattle.session.specs.Records.{heldIn, recordOf, soundFor}
 use Rattle.session.specs.declared.Record.{Record}
 use Rattle.session.proofs.Forms.{Fits, journal-back, record-form}
-use Rattle.session.specs.Commands.{refusal, answerOf, keyOf, outcomeOf, acceptOf, performOf, commandChecks, Result, outcomeFor, commandOf, freshOf}
-use Rattle.session.specs.Runs.{Answered, answered, Session, runOf}
+use Rattle.session.specs.Commands.{refusal, outcomeOf, acceptOf, performOf, Result, outcomeFor, commandOf, freshOf}
+use Rattle.session.specs.Runs.{answered, Session, runOf}
 use Rattle.session.specs.declared.Outcome.{Outcome}
 use Rattle.session.proofs.Fits.{held-fits}
 

@@ -2,7 +2,7 @@
 -- Assumes a sound record on an accepted sheet.
 use mathlib.Core.Path.{_≡_, refl, sym, _∙_, ap, subst}
 use mathlib.Core.Logic.{inl, inr}
-use mathlib.Core.Bool.{Bool, true, false, not, _&&_}
+use mathlib.Core.Bool.{Bool, true, false, not}
 use mathlib.Core.List.{List, [], _∷_, _++_, map}
 use Prim.Native.Nat.{ℕ, zero, suc, _-_, _<_, _≤_}
 use native.Mathlib.Omega.{arith}
@@ -12,14 +12,13 @@ use lib.Seq.{take-at}
 use Rattle.causal.specs.Lists.{Mem}
 use Rattle.causal.specs.Runs.{Run}
 use Rattle.causal.proofs.Lists.{mem-mid}
-use Rattle.net.specs.Limits.{maxLive}
 use Rattle.net.specs.Tests.{pick}
 use Rattle.net.specs.Net as Net
 use Rattle.net.specs.Net.{Net, arcsOf}
 use Rattle.net.specs.Firing.{undo, Fires}
 use Rattle.net.specs.Checks.{clear, first}
 use Rattle.net.specs.Journal as J
-use Rattle.net.specs.Journal.{LiveLine, Journal, transition, isLive, builtOn, without, undoChecks, undoReply, noLine}
+use Rattle.net.specs.Journal.{LiveLine, Journal, transition, builtOn, without, undoChecks, undoReply, noLine}
 use Rattle.net.specs.declared.Key.{Key}
 use Rattle.net.proofs.Keys.{Up, without-split}
 use Rattle.bonds.proofs.Fill.{map-table}
@@ -38,7 +37,7 @@ use Rattle.session.specs.Records.{heldIn, recordOf, Sound}
 use Rattle.session.specs.Commands.{refusal, outcomeOf, undoOutcome}
 use Rattle.session.specs.declared.Record.{Record}
 use Rattle.session.specs.declared.Answer.the-variants.{Undone}
-use Rattle.session.proofs.Sounds.{rule, few, held, live-is, firings-are}
+use Rattle.session.proofs.Sounds.{held, live-is, firings-are}
 use Rattle.session.proofs.Places.{keysOf, place-most, place-dead, Found, place-found, built-lines}
 use Rattle.session.proofs.Fits.{run-flags}
 

@@ -1,13 +1,13 @@
 -- Starting a session, and one command on a record: the checks in order, the answer, the key, the record, the tally.
 -- Definitions only (01, commands, record, tally; the turned-away list). `commandOf` fixes every outcome whole.
-use mathlib.Core.Bool.{Bool, not}
+use mathlib.Core.Bool.{not}
 use mathlib.Core.List.{List, [], _∷_, _++_}
 use Prim.Native.Nat.{ℕ}
 use lib.Dec.{eqb}
 use Rattle.net.specs.Tests.{pick}
 use Rattle.net.specs.Checks.{Check, check, clear, first}
 use Rattle.net.specs.Journal as J
-use Rattle.net.specs.Journal.{Journal, key, kindOf, numberOf, unreadable, transitionNamed, keyNamed, fireChecks, undoChecks, fireReply, undoReply, begin, checks}
+use Rattle.net.specs.Journal.{key, kindOf, numberOf, unreadable, transitionNamed, keyNamed, fireChecks, undoChecks, fireReply, undoReply, begin, checks}
 use Rattle.net.specs.declared.Key.{Key}
 use Rattle.net.specs.declared.Transition.{Transition}
 use Rattle.format.specs.NetOf.{netOf}
@@ -16,7 +16,6 @@ use Rattle.tally.specs.Counts.{countedOf}
 use Rattle.tally.specs.declared.Tally.{Tally}
 use Rattle.session.specs.Records.{heldIn, recordOf, soundFor}
 use Rattle.session.specs.declared.Record.{Record}
-use Rattle.session.specs.declared.Command.{Command}
 use Rattle.session.specs.declared.Command.the-variants.{Fire, UndoLast, Undo}
 use Rattle.session.specs.declared.Decoded.{Decoded}
 use Rattle.session.specs.declared.Decoded.the-variants.{Given, Unreadable}

@@ -1,7 +1,7 @@
 -- Document 01's sheets A and B as bytes; B is encoded from its description.
 -- Definitions only.
 use Prim.Native.Nat.{ℕ}
-use mathlib.Core.List.{List, [], _∷_, _++_}
+use mathlib.Core.List.{List, [], _∷_}
 
 abbrev pub sheetA : List ℕ
 sheetA =

@@ -1,8 +1,7 @@
 // The conditions under which a sheet is turned away for a transition's length and entries (document 01, 7 and 8), on that
 // transition's bytes: a function for each, true where the sheet is refused. Total: each reads any bytes.
 ghost use mathlib.Core.Path.{_≡_};
-ghost use mathlib.Core.Bool.{Bool};
-ghost use Prim.Native.Nat.{_+_, _*_, _<_, _≤_};
+ghost use Prim.Native.Nat.{_+_, _<_};
 ghost use lib.Dec.{ltb};
 ghost use Rattle.net.specs.Tests.{all};
 ghost use Rattle.net.specs.Sorted.{ascends};

@@ -1,8 +1,8 @@
 // The condition under which a sheet is turned away for a transition's couplings (document 01, 9), on that transition's bytes:
 // true where the sheet is refused. Total: it reads any bytes. `out` is a side of the transition (specs/Sides).
 ghost use mathlib.Core.Path.{_≡_};
-ghost use mathlib.Core.Bool.{Bool, _&&_};
-ghost use Prim.Native.Nat.{_+_, _*_, _<_, _≤_};
+ghost use mathlib.Core.Bool.{_&&_};
+ghost use Prim.Native.Nat.{_+_, _<_};
 ghost use lib.Dec.{eqb};
 ghost use Rattle.net.specs.Tests.{all, any};
 ghost use Rattle.net.specs.Sorted.{ascends};

@@ -1,16 +1,14 @@
 // The conditions under which a sheet is turned away before its transitions are looked at (document 01, 1 to 6): a function
 // for each, true where the sheet is refused. Total: each reads any bytes.
 ghost use mathlib.Core.Path.{_≡_};
-ghost use mathlib.Core.Bool.{Bool};
-ghost use Prim.Native.Nat.{_+_, _*_, _<_, _≤_};
+ghost use Prim.Native.Nat.{_+_, _*_, _<_};
 ghost use lib.Dec.{ltb};
-ghost use lib.ListN.{length};
-ghost use Rattle.net.specs.Tests.{all, table};
+ghost use Rattle.net.specs.Tests.{all};
 ghost use Rattle.net.specs.Sorted.{ascends};
 ghost use Rattle.net.specs.Net.{lessBond};
 ghost use Rattle.net.specs.Rules.{startBondRule};
-ghost use Rattle.format.specs.Parts.{pairsOf, placesOf, basesOf, startPlaces};
-ghost use Rattle.format.specs.NetOf.{startBondCount, nthStartBond, startOf};
+ghost use Rattle.format.specs.Parts.{pairsOf, basesOf};
+ghost use Rattle.format.specs.NetOf.{startOf};
 ghost use Rattle.sheet_start.specs.Conditions.{wrongSize, wrongVersion, wrongCounts, partsBegin, follow, wrongPairs, wrongStartPlaces, wrongStartBonds};
 use format::BOND_WIDTH;
 use format::HEADER_WIDTH;

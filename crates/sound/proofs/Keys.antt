@@ -3,13 +3,13 @@
 use mathlib.Core.Path.{_≡_, refl, sym, _∙_, ap}
 use mathlib.Core.Bool.{Bool, true, _&&_}
 use mathlib.Core.List.{List, [], _∷_, map}
-use Prim.Native.Nat.{ℕ, _<_, _≤_}
+use Prim.Native.Nat.{ℕ, _<_}
 use native.Mathlib.Omega.{arith}
 use lib.Dec.{ltb, leb}
 use lib.ListN.{getD}
 use borrow.Author.Tests.{ltb-true, lt-ltb}
 use Rattle.net.specs.Limits.{maxKey}
-use Rattle.net.specs.Tests.{all, table}
+use Rattle.net.specs.Tests.{all}
 use Rattle.net.specs.Sorted.{ascends}
 use Rattle.net.specs.Journal.{LiveLine}
 use Rattle.net.specs.History.{keysInOrder}

@@ -1,8 +1,8 @@
 -- One line more of a forward run: what the engine's answers say of it.
 -- Assumes nothing.
 use mathlib.Core.Path.{_≡_, refl, sym, _∙_, ap}
-use mathlib.Core.Bool.{Bool, true, false, not, _&&_, Bool·beq}
-use mathlib.Core.List.{List, [], _∷_}
+use mathlib.Core.Bool.{Bool, true, false, _&&_, Bool·beq}
+use mathlib.Core.List.{List, _∷_}
 use Prim.Native.Nat.{ℕ, suc, _+_, _*_, _-_, _<_, _≤_}
 use native.Mathlib.Omega.{arith}
 use native.Mathlib.Numerals.{add-one}
@@ -11,7 +11,7 @@ use lib.ListN.{length, getD, take, drop, drop-of-length-le}
 use lib.Seq.{drop-cons, take-at}
 use borrow.Author.Tests.{eq-eqb, ne-eqb, leb-false}
 use Rattle.net.specs.Limits.{maxBases, maxBonds}
-use Rattle.net.specs.Tests.{table, sameList}
+use Rattle.net.specs.Tests.{sameList}
 use Rattle.net.specs.Net as Net
 use Rattle.net.specs.Net.{Net, arcsOf}
 use Rattle.net.specs.Marking.{Good}
@@ -24,8 +24,7 @@ use Rattle.net.proofs.Tests.{and-l}
 use Rattle.net.proofs.Tables.{length-table, getD-table}
 use Rattle.net.proofs.Checks.{clear-off}
 use Rattle.net.proofs.Fire.{fire-good}
-use Rattle.format.specs.Parts.{basesOf, transitionsOf, transitionBytes}
-use Rattle.format.specs.Arcs.{arcsIn}
+use Rattle.format.specs.Parts.{basesOf, transitionsOf}
 use Rattle.format.specs.NetOf.{netOf}
 use Rattle.sheet.specs.Checks.{sheetChecks}
 use Rattle.sheet.proofs.Order.{clear-first}

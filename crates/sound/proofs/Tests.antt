@@ -7,13 +7,12 @@ use Prim.Native.Nat.{ℕ, _<_, _≤_, _*_, _-_}
 use native.Mathlib.Omega.{arith}
 use lib.Dec.{leb}
 use lib.ListN.{length}
-use borrow.Author.Tests.{le-leb, lt-leb, leb-true}
-use Rattle.net.specs.Limits.{maxBases, maxBonds, maxLive}
+use borrow.Author.Tests.{le-leb, lt-leb}
+use Rattle.net.specs.Limits.{maxBases, maxLive}
 use Rattle.net.specs.Checks.{clear}
 use Rattle.net.specs.Net as Net
-use Rattle.net.specs.History.{keysInOrder, linesInForm, replays}
+use Rattle.net.specs.History.{linesInForm, replays}
 use Rattle.net.specs.Marking.{Good}
-use Rattle.net.proofs.Tests.{and-l}
 use Rattle.net.proofs.Tables.{length-table}
 use Rattle.net.proofs.Rules.{start-good}
 use Rattle.causal.proofs.Tests.{both}
@@ -24,7 +23,7 @@ use Rattle.sheet.proofs.Accepted.{promised}
 use Rattle.marking.specs.Form.{markingOf, laid, inForm}
 use Rattle.marking.specs.declared.Marking.{Marking}
 use Rattle.marking.proofs.Forms.{marking-laid}
-use Rattle.firings.specs.Lines.{past, lineOf, linesIn}
+use Rattle.firings.specs.Lines.{linesIn}
 use Rattle.firings.specs.Form.{usedInForm, unusedInForm, liveKeys, climbs}
 use Rattle.firings.specs.declared.Firing.{Firing}
 use Rattle.marking.proofs.Room.{bonds-fit}

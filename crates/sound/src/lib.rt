@@ -1,7 +1,7 @@
 // Whether what a record holds is sound for a sheet (document 01, commands, record, tally; refusal 10): it has the form,
 // its keys ascend, and its firings, run forward alone from the start, are accepted and end in its marking.
 ghost use mathlib.Core.Path.{_≡_};
-ghost use mathlib.Core.Bool.{Bool, true};
+ghost use mathlib.Core.Bool.{true};
 ghost use Prim.Native.Nat.{_≤_};
 ghost use Rattle.net.specs.Limits.{maxLive, maxBonds};
 ghost use Rattle.net.specs.Checks.{clear};

@@ -1,8 +1,7 @@
 // The marking that a session starts from: the sheet's start places and start couplings (document 01, the sheet).
 // Read from the sheet's bytes into a marking in its form.
 ghost use mathlib.Core.Path.{_≡_};
-ghost use mathlib.Core.List.{List};
-ghost use Prim.Native.Nat.{ℕ, _≤_};
+ghost use Prim.Native.Nat.{_≤_};
 ghost use lib.ListN.{length};
 ghost use Rattle.net.specs.Limits.{maxBases, maxBonds};
 ghost use Rattle.net.specs.Tests.{table};

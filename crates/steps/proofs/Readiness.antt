@@ -1,15 +1,8 @@
 -- An accepted sheet and a good marking give what the engine asks of a step and a marking.
 -- Assumes nothing.
-use mathlib.Core.Path.{_≡_, refl, sym, _∙_, ap}
-use mathlib.Core.Bool.{true}
 use mathlib.Core.List.{List}
 use Prim.Native.Nat.{ℕ, _<_, _≤_}
-use native.Mathlib.Omega.{arith}
-use lib.ListN.{length}
 use Rattle.net.specs.Limits.{maxBases}
-use Rattle.net.specs.Net.{Net, arcsOf}
-use Rattle.net.specs.Rules.{netRule}
-use Rattle.net.specs.declared.Bond.{Bond}
 use Rattle.net.specs.declared.Transition.{Transition}
 use Rattle.net.proofs.Moves.{Fit}
 use Rattle.net.proofs.Rules.{fits}

@@ -4,7 +4,7 @@ ghost use mathlib.Core.Path.{_≡_};
 ghost use Prim.Native.Nat.{_+_, _≤_};
 ghost use lib.ListN.{length};
 ghost use lib.Seq.{sets};
-ghost use Rattle.text.specs.Decimal.{digits, decimal};
+ghost use Rattle.text.specs.Decimal.{digits};
 
 // The last `places` digits of n, with no zero in front. Answers where the text ends.
 // The callers have checked that the buffer is long enough, as for the two functions below.

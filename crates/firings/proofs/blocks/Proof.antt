@@ -1,15 +1,9 @@
-use native.Mathlib.Omega.{arith}
-use mathlib.Core.Path.{_≡_, refl, ap, sym, _∙_}
-use Prim.Native.Nat.{ℕ, suc, _+_, _-_, _*_, _<_, _≤_}
-use lib.ListN.{length, getD, take, drop, set}
-use mathlib.Core.List.{List, [], _∷_, _++_}
+use mathlib.Core.Path.{sym}
+use Prim.Native.Nat.{_-_}
 use mathlib.Core.Bool.{or-false}
 use borrow.Author.Needs.{needs}
 use Rattle.firings.proofs.blocks.Statement.{statement}
 use Rattle.firings.proofs.blocks.Tie as tie
-use Rattle.firings.proofs.blocks.Reads as reads
-use Rattle.firings.proofs.blocks.Lts as lts
-use Rattle.marking.proofs.shares.Reads as shares-reads
 
 -- src/lib.rt:182:27
 shares-requires : tie.Need-shares-requires

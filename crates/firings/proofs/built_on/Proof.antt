@@ -1,18 +1,14 @@
 use borrow.Author.Needs.{needs}
 use native.Mathlib.Omega.{arith}
-use mathlib.Core.Path.{_≡_, refl, ap, sym, _∙_}
-use Prim.Native.Nat.{ℕ, suc, _+_, _-_, _*_, _<_, _≤_}
-use lib.ListN.{length, getD, take, drop, set}
-use mathlib.Core.List.{List, [], _∷_, _++_}
+use mathlib.Core.Path.{_≡_, refl, _∙_}
+use Prim.Native.Nat.{_-_, _≤_}
+use lib.ListN.{length, getD, take}
 use Rattle.net.specs.Limits.{maxLive}
 use Rattle.firings.specs.Lines.{past}
 use Rattle.firings.specs.Search.{builtOnIn}
 use Rattle.firings.proofs.Search.{any-taken}
 use Rattle.firings.proofs.built_on.Statement.{statement}
 use Rattle.firings.proofs.built_on.Tie as tie
-use Rattle.firings.proofs.built_on.Reads as reads
-use Rattle.firings.proofs.built_on.Lts as lts
-use Rattle.firings.proofs.blocks.Reads as blocks-reads
 
 abbrev Inv-loop : tie.InvT-loop
 Inv-loop live i firings f found₀ j₀ found j = (j ≤ live) × (live ≤ maxLive) × (length firings ≡ maxLive) × (f ≡ getD firings i past) × (found ≡ builtOnIn f (take j firings))

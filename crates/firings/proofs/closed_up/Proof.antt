@@ -1,9 +1,9 @@
 use borrow.Author.Needs.{needs}
 use native.Mathlib.Omega.{arith}
-use mathlib.Core.Path.{_≡_, refl, ap, sym, _∙_}
-use Prim.Native.Nat.{ℕ, suc, _+_, _-_, _*_, _<_, _≤_}
-use lib.ListN.{length, getD, take, drop, set}
-use mathlib.Core.List.{List, [], _∷_, _++_}
+use mathlib.Core.Path.{_≡_, refl, ap, _∙_}
+use Prim.Native.Nat.{ℕ, _+_, _-_, _<_, _≤_}
+use lib.ListN.{length, getD, drop}
+use mathlib.Core.List.{List, _++_}
 use lib.ListN.{replicate, length-replicate}
 use Rattle.net.specs.Limits.{maxLive}
 use Rattle.net.specs.Tests.{table}
@@ -15,10 +15,6 @@ use Rattle.firings.specs.declared.Firing.{Firing}
 use Rattle.firings.proofs.Lists.{gap-read}
 use Rattle.firings.proofs.closed_up.Statement.{statement}
 use Rattle.firings.proofs.closed_up.Tie as tie
-use Rattle.firings.proofs.closed_up.Reads as reads
-use Rattle.firings.proofs.closed_up.Lts as lts
-use Rattle.firings.proofs.no_firing.Reads as no-firing-reads
-use Rattle.firings.proofs.past_gap.Reads as past-gap-reads
 
 -- what the loop leaves, as the definition has it
 left-out : (k i j : ℕ) (fs fs₀ gs : List Firing) → j ≡ k - 1 → fs₀ ≡ replicate maxLive noFiring → gs ≡ table j (gap i (λ x. getD fs x past)) ++ drop j fs₀ → gs ≡ closedUp k i fs

@@ -1,8 +1,5 @@
 use native.Mathlib.Omega.{arith}
-use mathlib.Core.Path.{_≡_, refl, ap, sym, _∙_}
-use Prim.Native.Nat.{ℕ, suc, _+_, _-_, _*_, _<_, _≤_}
-use lib.ListN.{length, getD, take, drop, set}
-use mathlib.Core.List.{List, [], _∷_, _++_}
+use Prim.Native.Nat.{_-_}
 use borrow.Author.Needs.{needs}
 use mathlib.Core.Bool.{Bool}
 use lib.Dec.{eqb}
@@ -10,9 +7,6 @@ use Rattle.net.proofs.Tests.{and-l, and-r}
 use Rattle.firings.proofs.Laid.{is-none}
 use Rattle.firings.proofs.is_no_firing.Statement.{statement}
 use Rattle.firings.proofs.is_no_firing.Tie as tie
-use Rattle.firings.proofs.is_no_firing.Reads as reads
-use Rattle.firings.proofs.is_no_firing.Lts as lts
-use Rattle.form.proofs.clear_from.Reads as clear-from-reads
 
 -- src/lib.rt:71:9
 clear-from-requires : tie.Need-clear-from-requires

@@ -1,18 +1,15 @@
 use borrow.Author.Needs.{needs}
 use native.Mathlib.Omega.{arith}
-use mathlib.Core.Path.{_≡_, refl, ap, sym, _∙_}
-use Prim.Native.Nat.{ℕ, suc, _+_, _-_, _*_, _<_, _≤_}
-use lib.ListN.{length, getD, take, drop, set}
-use mathlib.Core.List.{List, [], _∷_, _++_}
-use mathlib.Core.Bool.{Bool, _&&_}
+use mathlib.Core.Path.{_≡_, refl}
+use Prim.Native.Nat.{_-_, _≤_}
+use lib.ListN.{getD, drop}
+use mathlib.Core.Bool.{_&&_}
 use Rattle.net.specs.Limits.{maxLive}
 use Rattle.firings.specs.Lines.{past}
 use Rattle.firings.specs.Form.{liveKeys, climbs}
 use Rattle.firings.proofs.Rest.{climb-turn, climb-end}
 use Rattle.firings.proofs.keys_climb.Statement.{statement}
 use Rattle.firings.proofs.keys_climb.Tie as tie
-use Rattle.firings.proofs.keys_climb.Reads as reads
-use Rattle.firings.proofs.keys_climb.Lts as lts
 
 abbrev Inv-loop : tie.InvT-loop
 Inv-loop live firings ok₀ last₀ i₀ ok last i = (i ≤ live) × (live ≤ maxLive) × (climbs 0 (liveKeys live firings) ≡ (ok && climbs last (drop i (liveKeys live firings))))

@@ -1,14 +1,8 @@
-use native.Mathlib.Omega.{arith}
-use mathlib.Core.Path.{_≡_, refl, ap, sym, _∙_}
-use Prim.Native.Nat.{ℕ, suc, _+_, _-_, _*_, _<_, _≤_}
-use lib.ListN.{length, getD, take, drop, set}
-use mathlib.Core.List.{List, [], _∷_, _++_}
+use Prim.Native.Nat.{_-_}
 use borrow.Author.Needs.{needs}
 use borrow.Author.Tests.{eq-eqb, ne-eqb}
 use Rattle.firings.proofs.last_key.Statement.{statement}
 use Rattle.firings.proofs.last_key.Tie as tie
-use Rattle.firings.proofs.last_key.Reads as reads
-use Rattle.firings.proofs.last_key.Lts as lts
 
 -- src/lib.rt:154:9
 returns : tie.Need-returns

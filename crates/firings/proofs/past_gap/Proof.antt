@@ -1,14 +1,9 @@
 use native.Mathlib.Omega.{arith}
-use mathlib.Core.Path.{_≡_, refl, ap, sym, _∙_}
-use Prim.Native.Nat.{ℕ, suc, _+_, _-_, _*_, _<_, _≤_}
-use lib.ListN.{length, getD, take, drop, set}
-use mathlib.Core.List.{List, [], _∷_, _++_}
+use Prim.Native.Nat.{_-_}
 use borrow.Author.Tests.{lt-ltb, le-ltb}
 use borrow.Author.Needs.{needs}
 use Rattle.firings.proofs.past_gap.Statement.{statement}
 use Rattle.firings.proofs.past_gap.Tie as tie
-use Rattle.firings.proofs.past_gap.Reads as reads
-use Rattle.firings.proofs.past_gap.Lts as lts
 
 -- src/lib.rt:46:27
 add-result : tie.Need-add-result

@@ -1,9 +1,8 @@
 use borrow.Author.Needs.{needs}
 use native.Mathlib.Omega.{arith}
-use mathlib.Core.Path.{_≡_, refl, ap, sym, _∙_}
-use Prim.Native.Nat.{ℕ, suc, _+_, _-_, _*_, _<_, _≤_}
-use lib.ListN.{length, getD, take, drop, set}
-use mathlib.Core.List.{List, [], _∷_, _++_}
+use mathlib.Core.Path.{_≡_}
+use Prim.Native.Nat.{_+_, _-_, _≤_}
+use lib.ListN.{getD, drop}
 use Rattle.net.specs.Limits.{maxLive}
 use Rattle.firings.specs.Lines.{past}
 use Rattle.firings.specs.Form.{liveKeys}
@@ -11,8 +10,6 @@ use Rattle.firings.specs.Search.{placeOf}
 use Rattle.firings.proofs.Search.{place-found, place-on, place-none}
 use Rattle.firings.proofs.place_of.Statement.{statement}
 use Rattle.firings.proofs.place_of.Tie as tie
-use Rattle.firings.proofs.place_of.Reads as reads
-use Rattle.firings.proofs.place_of.Lts as lts
 
 abbrev Inv-loop : tie.InvT-loop
 Inv-loop live key firings i₀ i = (i ≤ live) × (live ≤ maxLive) × (placeOf (key .0) (liveKeys live firings) ≡ i + placeOf (key .0) (drop i (liveKeys live firings)))

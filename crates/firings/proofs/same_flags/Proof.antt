@@ -1,17 +1,14 @@
 use borrow.Author.Needs.{needs}
 use native.Mathlib.Omega.{arith}
-use mathlib.Core.Path.{_≡_, refl, ap, sym, _∙_}
-use Prim.Native.Nat.{ℕ, suc, _+_, _-_, _*_, _<_, _≤_}
-use lib.ListN.{length, getD, take, drop, set}
-use mathlib.Core.List.{List, [], _∷_, _++_}
+use mathlib.Core.Path.{_≡_, refl, ap, _∙_}
+use Prim.Native.Nat.{ℕ, _-_, _≤_}
+use lib.ListN.{length, take}
 use mathlib.Core.Bool.{Bool, false, Bool·beq}
 use Rattle.net.specs.Limits.{maxBases}
 use Rattle.net.specs.Tests.{sameList}
 use Rattle.firings.proofs.Same.{same-taken}
 use Rattle.firings.proofs.same_flags.Statement.{statement}
 use Rattle.firings.proofs.same_flags.Tie as tie
-use Rattle.firings.proofs.same_flags.Reads as reads
-use Rattle.firings.proofs.same_flags.Lts as lts
 
 abbrev Inv-loop : tie.InvT-loop
 Inv-loop n a b ok₀ i₀ ok i = (i ≤ n) × (n ≤ maxBases) × (length a ≡ maxBases) × (length b ≡ maxBases) × (ok ≡ sameList Bool·beq (take i a) (take i b))

@@ -1,9 +1,8 @@
 use borrow.Author.Needs.{needs}
 use native.Mathlib.Omega.{arith}
 use mathlib.Core.Path.{_≡_, refl, ap, sym, _∙_}
-use Prim.Native.Nat.{ℕ, suc, _+_, _-_, _*_, _<_, _≤_}
-use lib.ListN.{length, getD, take, drop, set}
-use mathlib.Core.List.{List, [], _∷_, _++_}
+use Prim.Native.Nat.{_+_, _-_, _≤_}
+use lib.ListN.{length}
 use mathlib.Core.Bool.{Bool, true, _&&_}
 use Rattle.net.specs.Limits.{maxLive}
 use Rattle.net.proofs.Tests.{and-l, and-r}
@@ -13,9 +12,6 @@ use Rattle.firings.proofs.Rest.{rest-turn, rest-end}
 use Rattle.firings.proofs.Laid.{unused-more}
 use Rattle.firings.proofs.unused_in_form.Statement.{statement}
 use Rattle.firings.proofs.unused_in_form.Tie as tie
-use Rattle.firings.proofs.unused_in_form.Reads as reads
-use Rattle.firings.proofs.unused_in_form.Lts as lts
-use Rattle.firings.proofs.is_no_firing.Reads as is-no-firing-reads
 
 abbrev Inv-loop : tie.InvT-loop
 Inv-loop live firings ok₀ i₀ ok i =

@@ -1,9 +1,8 @@
 use borrow.Author.Needs.{needs}
 use native.Mathlib.Omega.{arith}
-use mathlib.Core.Path.{_≡_, refl, ap, sym, _∙_}
-use Prim.Native.Nat.{ℕ, suc, _+_, _-_, _*_, _<_, _≤_}
-use lib.ListN.{length, getD, take, drop, set}
-use mathlib.Core.List.{List, [], _∷_, _++_}
+use mathlib.Core.Path.{_≡_, refl, ap, _∙_}
+use Prim.Native.Nat.{ℕ, _-_, _≤_}
+use lib.ListN.{length, getD, drop}
 use mathlib.Core.Bool.{Bool, true, _&&_}
 use native.Mathlib.Nat.{not-suc-le-zero}
 use Rattle.net.specs.Limits.{maxBases, maxLive}
@@ -15,9 +14,6 @@ use Rattle.firings.proofs.Rest.{taken-turn}
 use Rattle.firings.proofs.Laid.{as-line, as-lines-more}
 use Rattle.firings.proofs.used_in_form.Statement.{statement}
 use Rattle.firings.proofs.used_in_form.Tie as tie
-use Rattle.firings.proofs.used_in_form.Reads as reads
-use Rattle.firings.proofs.used_in_form.Lts as lts
-use Rattle.form.proofs.clear_from.Reads as clear-from-reads
 
 abbrev Inv-loop : tie.InvT-loop
 Inv-loop live n firings ok₀ i₀ ok i =

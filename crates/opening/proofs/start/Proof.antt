@@ -1,21 +1,11 @@
-use native.Mathlib.Omega.{arith}
-use mathlib.Core.Path.{_≡_, refl, ap, sym, _∙_}
-use Prim.Native.Nat.{ℕ, suc, _+_, _-_, _*_, _<_, _≤_}
-use lib.ListN.{length, getD, take, drop, set}
-use mathlib.Core.List.{List, [], _∷_, _++_}
+use mathlib.Core.Path.{_∙_}
+use Prim.Native.Nat.{_-_}
 use Rattle.sound.proofs.Tests.{start-fits}
 use Rattle.session.proofs.Answering.{sheet-clear}
 use Rattle.opening.proofs.Starting.{refused, started}
 use borrow.Author.Needs.{needs}
 use Rattle.opening.proofs.start.Statement.{statement}
 use Rattle.opening.proofs.start.Tie as tie
-use Rattle.opening.proofs.start.Reads as reads
-use Rattle.opening.proofs.start.Lts as lts
-use Rattle.firings.proofs.no_firing.Reads as no-firing-reads
-use Rattle.opening.proofs.zero_record.Reads as zero-record-reads
-use Rattle.sheet.proofs.check_sheet.Reads as check-sheet-reads
-use Rattle.sheet.proofs.sheet_number.Reads as sheet-number-reads
-use Rattle.start.proofs.start_marking.Reads as start-marking-reads
 
 -- src/lib.rt:38:9
 check-sheet-requires : tie.Need-check-sheet-requires

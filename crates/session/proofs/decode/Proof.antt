@@ -1,16 +1,8 @@
-use native.Mathlib.Omega.{arith}
-use mathlib.Core.Path.{_≡_, refl, ap, sym, _∙_}
-use Prim.Native.Nat.{ℕ, suc, _+_, _-_, _*_, _<_, _≤_}
-use lib.ListN.{length, getD, take, drop, set}
-use mathlib.Core.List.{List, [], _∷_, _++_}
+use Prim.Native.Nat.{_-_}
 use Rattle.session.proofs.Decoding.{is-fire, is-undo, no-kind, no-number, is-undo-last}
 use borrow.Author.Needs.{needs}
 use Rattle.session.proofs.decode.Statement.{statement}
 use Rattle.session.proofs.decode.Tie as tie
-use Rattle.session.proofs.decode.Reads as reads
-use Rattle.session.proofs.decode.Lts as lts
-use Rattle.format.proofs.byte_at.Reads as byte-at-reads
-use Rattle.format.proofs.word_at.Reads as word-at-reads
 
 -- src/lib.rt:52:9
 byte-at-requires : tie.Need-byte-at-requires

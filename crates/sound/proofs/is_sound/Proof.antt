@@ -1,8 +1,6 @@
-use native.Mathlib.Omega.{arith}
 use mathlib.Core.Path.{_≡_, refl, ap, sym, _∙_}
-use Prim.Native.Nat.{ℕ, suc, _+_, _-_, _*_, _<_, _≤_}
-use lib.ListN.{length, getD, take, drop, set}
-use mathlib.Core.List.{List, [], _∷_, _++_}
+use Prim.Native.Nat.{ℕ, _-_}
+use mathlib.Core.List.{List}
 use mathlib.Core.Bool.{false, _&&_}
 use Rattle.causal.proofs.Tests.{both}
 use Rattle.sheet.proofs.Accepted.{promised}
@@ -21,15 +19,6 @@ use Rattle.sound.proofs.Tests.{start-placed, start-fits, from-start, to
 use borrow.Author.Needs.{needs}
 use Rattle.sound.proofs.is_sound.Statement.{statement}
 use Rattle.sound.proofs.is_sound.Tie as tie
-use Rattle.sound.proofs.is_sound.Reads as reads
-use Rattle.sound.proofs.is_sound.Lts as lts
-use Rattle.firings.proofs.keys_climb.Reads as keys-climb-reads
-use Rattle.firings.proofs.unused_in_form.Reads as unused-in-form-reads
-use Rattle.firings.proofs.used_in_form.Reads as used-in-form-reads
-use Rattle.format.proofs.base_count.Reads as base-count-reads
-use Rattle.form.proofs.in_form.Reads as in-form-reads
-use Rattle.sound.proofs.runs_to.Reads as runs-to-reads
-use Rattle.start.proofs.start_marking.Reads as start-marking-reads
 
 -- the four tests, as the definition has them
 gathered : (c : tie.After-keys-climb) → (c .before .before .before .in-form .result && (c .before .before .used-in-form .result && (c .before .unused-in-form .result && c .keys-climb .result)))

@@ -1,8 +1,6 @@
 use native.Mathlib.Omega.{arith}
-use mathlib.Core.Path.{_≡_, refl, ap, sym, _∙_}
-use Prim.Native.Nat.{ℕ, suc, _+_, _-_, _*_, _<_, _≤_}
-use lib.ListN.{length, getD, take, drop, set}
-use mathlib.Core.List.{List, [], _∷_, _++_}
+use mathlib.Core.Path.{_≡_}
+use Prim.Native.Nat.{_-_}
 use Rattle.sound.proofs.Lines.{line-refused, line-clear, line-same, enabled-listed}
 use Rattle.steps.proofs.Readiness.{few-bases}
 use mathlib.Core.Bool.{true}
@@ -14,12 +12,6 @@ use Rattle.marking.specs.Form.{markingOf}
 use borrow.Author.Needs.{needs}
 use Rattle.sound.proofs.line_accepted.Statement.{statement}
 use Rattle.sound.proofs.line_accepted.Tie as tie
-use Rattle.sound.proofs.line_accepted.Reads as reads
-use Rattle.sound.proofs.line_accepted.Lts as lts
-use Rattle.firings.proofs.same_flags.Reads as same-flags-reads
-use Rattle.format.proofs.base_count.Reads as base-count-reads
-use Rattle.steps.proofs.enable_refusal.Reads as enable-refusal-reads
-use Rattle.steps.proofs.moved_by.Reads as moved-by-reads
 
 -- the firing's transition is enabled
 passed : (c : tie.Else1) → clear (enableChecks (netOf (c .before .before .before .before .before .args .sheet .now)) (markingOf (basesOf (c .before .before .before .before .before .args .sheet .now)) (c .before .before .before .before .before .args .m)) (transition (c .before .before .before .before .before .args .f .transition))) ≡ true

@@ -13,18 +13,11 @@ use Rattle.steps.proofs.Readiness.{few-bases}
 use Rattle.sound.proofs.Lines.{enabled-listed, placed-room, run-stops, run-goes, run-ends}
 use borrow.Author.Needs.{needs}
 use native.Mathlib.Omega.{arith}
-use mathlib.Core.Path.{_≡_, refl, ap, sym, _∙_}
-use Prim.Native.Nat.{ℕ, suc, _+_, _-_, _*_, _<_, _≤_}
-use lib.ListN.{length, getD, take, drop, set}
-use mathlib.Core.List.{List, [], _∷_, _++_}
+use mathlib.Core.Path.{_≡_, refl, sym, _∙_}
+use Prim.Native.Nat.{_-_, _≤_}
+use lib.ListN.{getD, drop}
 use Rattle.sound.proofs.runs_to.Statement.{statement}
 use Rattle.sound.proofs.runs_to.Tie as tie
-use Rattle.sound.proofs.runs_to.Reads as reads
-use Rattle.sound.proofs.runs_to.Lts as lts
-use Rattle.format.proofs.base_count.Reads as base-count-reads
-use Rattle.form.proofs.same_marking.Reads as same-marking-reads
-use Rattle.sound.proofs.line_accepted.Reads as line-accepted-reads
-use Rattle.steps.proofs.fired.Reads as fired-reads
 
 abbrev Inv-loop : tie.InvT-loop
 Inv-loop sheet live end firings now-at₀ i₀ now-at i =

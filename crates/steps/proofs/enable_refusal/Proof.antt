@@ -1,8 +1,7 @@
 use native.Mathlib.Omega.{arith}
-use mathlib.Core.Path.{_≡_, refl, ap, sym, _∙_}
-use Prim.Native.Nat.{ℕ, suc, _+_, _-_, _*_, _<_, _≤_}
-use lib.ListN.{length, getD, take, drop, set}
-use mathlib.Core.List.{List, [], _∷_, _++_}
+use mathlib.Core.Path.{_≡_, sym, _∙_}
+use Prim.Native.Nat.{ℕ, _-_, _<_}
+use mathlib.Core.List.{List}
 use mathlib.Core.Bool.{false}
 use Rattle.net.specs.Net as Net
 use Rattle.net.specs.Net.{Arcs, arcsOf}
@@ -20,15 +19,6 @@ use Rattle.steps.proofs.Refusals.{ready-at, on-net, refused-12, refused
 use borrow.Author.Needs.{needs}
 use Rattle.steps.proofs.enable_refusal.Statement.{statement}
 use Rattle.steps.proofs.enable_refusal.Tie as tie
-use Rattle.steps.proofs.enable_refusal.Reads as reads
-use Rattle.steps.proofs.enable_refusal.Lts as lts
-use Rattle.enabling.proofs.bond_absent.Reads as bond-absent-reads
-use Rattle.enabling.proofs.bond_present.Reads as bond-present-reads
-use Rattle.enabling.proofs.misplaced.Reads as misplaced-reads
-use Rattle.enabling.proofs.torn_apart.Reads as torn-apart-reads
-use Rattle.format.proofs.base_count.Reads as base-count-reads
-use Rattle.format.proofs.transition_bytes.Reads as transition-bytes-reads
-use Rattle.format.proofs.transition_count.Reads as transition-count-reads
 
 -- what the readers gave, and what each test said, by place
 abbrev Sheet : tie.After-transition-bytes → List ℕ

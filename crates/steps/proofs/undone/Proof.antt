@@ -1,19 +1,11 @@
-use native.Mathlib.Omega.{arith}
-use mathlib.Core.Path.{_≡_, refl, ap, sym, _∙_}
-use Prim.Native.Nat.{ℕ, suc, _+_, _-_, _*_, _<_, _≤_}
-use lib.ListN.{length, getD, take, drop, set}
-use mathlib.Core.List.{List, [], _∷_, _++_}
+use mathlib.Core.Path.{_∙_}
+use Prim.Native.Nat.{_-_}
 use Rattle.net.specs.Firing.{undo}
 use Rattle.marking.specs.Form.{markingOf, laid}
 use Rattle.steps.proofs.Refusals.{arcs-at, ready-at}
 use borrow.Author.Needs.{needs}
 use Rattle.steps.proofs.undone.Statement.{statement}
 use Rattle.steps.proofs.undone.Tie as tie
-use Rattle.steps.proofs.undone.Reads as reads
-use Rattle.steps.proofs.undone.Lts as lts
-use Rattle.engine.proofs.undo.Reads as undo-reads
-use Rattle.format.proofs.base_count.Reads as base-count-reads
-use Rattle.format.proofs.transition_bytes.Reads as transition-bytes-reads
 
 -- src/lib.rt:78:13
 base-count-requires : tie.Need-base-count-requires

@@ -1,20 +1,10 @@
-use native.Mathlib.Omega.{arith}
-use mathlib.Core.Path.{_≡_, refl, ap, sym, _∙_}
-use Prim.Native.Nat.{ℕ, suc, _+_, _-_, _*_, _<_, _≤_}
-use lib.ListN.{length, getD, take, drop, set}
-use mathlib.Core.List.{List, [], _∷_, _++_}
+use mathlib.Core.Path.{sym, _∙_}
+use Prim.Native.Nat.{_-_}
 use borrow.Author.Tests.{not-true, not-false}
 use Rattle.session.proofs.Answering.{sheet-clear, sheet-refused, record-refused, performed, sound-of}
 use borrow.Author.Needs.{needs}
 use Rattle.session.proofs.Record.answer.Statement.{statement}
 use Rattle.session.proofs.Record.answer.Tie as tie
-use Rattle.session.proofs.Record.answer.Reads as reads
-use Rattle.session.proofs.Record.answer.Lts as lts
-use Rattle.session.proofs.Record.perform.Reads as perform-reads
-use Rattle.session.proofs.Record.refused.Reads as refused-reads
-use Rattle.sheet.proofs.check_sheet.Reads as check-sheet-reads
-use Rattle.sheet.proofs.sheet_number.Reads as sheet-number-reads
-use Rattle.sound.proofs.is_sound.Reads as is-sound-reads
 
 -- src/lib.rt:221:13
 check-sheet-requires : tie.Need-check-sheet-requires

@@ -1,21 +1,12 @@
 use native.Mathlib.Omega.{arith}
-use mathlib.Core.Path.{_≡_, refl, ap, sym, _∙_}
-use Prim.Native.Nat.{ℕ, suc, _+_, _-_, _*_, _<_, _≤_}
-use lib.ListN.{length, getD, take, drop, set}
-use mathlib.Core.List.{List, [], _∷_, _++_}
+use mathlib.Core.Path.{_∙_}
+use Prim.Native.Nat.{_-_}
 use Rattle.sheet.proofs.Accepted.{promised}
 use Rattle.session.proofs.Sounds.{placed}
 use Rattle.session.proofs.Fires.{not-enabled, listed, full, spent, done}
 use borrow.Author.Needs.{needs}
 use Rattle.session.proofs.Record.fire.Statement.{statement}
 use Rattle.session.proofs.Record.fire.Tie as tie
-use Rattle.session.proofs.Record.fire.Reads as reads
-use Rattle.session.proofs.Record.fire.Lts as lts
-use Rattle.firings.proofs.last_key.Reads as last-key-reads
-use Rattle.session.proofs.Record.refused.Reads as refused-reads
-use Rattle.steps.proofs.enable_refusal.Reads as enable-refusal-reads
-use Rattle.steps.proofs.fired.Reads as fired-reads
-use Rattle.steps.proofs.moved_by.Reads as moved-by-reads
 
 -- src/lib.rt:136:13
 enable-refusal-requires : tie.Need-enable-refusal-requires

@@ -1,8 +1,6 @@
-use native.Mathlib.Omega.{arith}
-use mathlib.Core.Path.{_≡_, refl, ap, sym, _∙_}
-use Prim.Native.Nat.{ℕ, suc, _+_, _-_, _*_, _<_, _≤_}
-use lib.ListN.{length, getD, take, drop, set}
-use mathlib.Core.List.{List, [], _∷_, _++_}
+use mathlib.Core.Path.{ap, _∙_}
+use Prim.Native.Nat.{ℕ, _-_}
+use mathlib.Core.List.{List}
 use borrow.Author.Tests.{lt-ltb, le-ltb}
 use Rattle.net.specs.Journal.{key}
 use Rattle.format.specs.Parts.{basesOf}
@@ -13,13 +11,6 @@ use Rattle.session.proofs.Performing.{cut, unread, given}
 use borrow.Author.Needs.{needs}
 use Rattle.session.proofs.Record.perform.Statement.{statement}
 use Rattle.session.proofs.Record.perform.Tie as tie
-use Rattle.session.proofs.Record.perform.Reads as reads
-use Rattle.session.proofs.Record.perform.Lts as lts
-use Rattle.firings.proofs.last_key.Reads as last-key-reads
-use Rattle.session.proofs.Record.fire.Reads as fire-reads
-use Rattle.session.proofs.Record.refused.Reads as refused-reads
-use Rattle.session.proofs.Record.undo.Reads as undo-reads
-use Rattle.session.proofs.decode.Reads as decode-reads
 
 -- src/lib.rt:199:13
 refused-requires : tie.Need-refused-requires

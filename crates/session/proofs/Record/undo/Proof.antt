@@ -1,20 +1,11 @@
 use native.Mathlib.Omega.{arith}
-use mathlib.Core.Path.{_≡_, refl, ap, sym, _∙_}
-use Prim.Native.Nat.{ℕ, suc, _+_, _-_, _*_, _<_, _≤_}
-use lib.ListN.{length, getD, take, drop, set}
-use mathlib.Core.List.{List, [], _∷_, _++_}
+use mathlib.Core.Path.{sym, _∙_}
+use Prim.Native.Nat.{_-_}
 use Rattle.session.proofs.Sounds.{placed, live-few}
 use Rattle.session.proofs.Undoes.{dead, built, listed, done}
 use borrow.Author.Needs.{needs}
 use Rattle.session.proofs.Record.undo.Statement.{statement}
 use Rattle.session.proofs.Record.undo.Tie as tie
-use Rattle.session.proofs.Record.undo.Reads as reads
-use Rattle.session.proofs.Record.undo.Lts as lts
-use Rattle.firings.proofs.built_on.Reads as built-on-reads
-use Rattle.firings.proofs.closed_up.Reads as closed-up-reads
-use Rattle.firings.proofs.place_of.Reads as place-of-reads
-use Rattle.session.proofs.Record.refused.Reads as refused-reads
-use Rattle.steps.proofs.undone.Reads as undone-reads
 
 -- src/lib.rt:171:13
 place-of-requires : tie.Need-place-of-requires
