@@ -44,6 +44,9 @@ module _ (s : List ℕ) (r : Record) (S : Sound s r) where
   unfolding commandOf
   command-sound t c = outcome-sound c
 
+  pub step-sound : (t : Tally) (c : List ℕ) (x : Stepped) → x ≡ steppedOf (commandOf s r t c) → Sound s (x .session)
+  step-sound t c x e = subst (λ (y : Stepped). Sound s (y .session)) (sym e) (command-sound t c)
+
   -- one command, counted, is the command of the definition
   pub stepped : (t : Tally) (c : List ℕ) (o : Outcome) → o ≡ performOf s r c
       → (which : ℕ) → which ≡ countOf (o .answer) → (code : ℕ) → code ≡ codeOf (o .answer) → (next : Tally) → next ≡ countedOf t which

@@ -69,3 +69,36 @@ pub fn step_with(r: Record, sheet: &[u8], bytes: &[u8], t: Tally) -> Stepped
         key: key.0,
     }
 }
+
+// All commands of the bytes, in order. The caller has a sound record on an accepted sheet, and slices with an entry for
+// each command: the program and the block call see to both. What lies after the last answer's entry stays as it was.
+pub fn run(
+    r: Record,
+    sheet: &[u8],
+    commands: &[u8],
+    t: Tally,
+    codes: &mut [u16],
+    keys: &mut [u16],
+) -> Ran
+    requires { ⌜ Sound (now sheet) r × (howMany (now commands) ≤ length (now codes)) × (howMany (now commands) ≤ length (now keys)) ⌝ }
+    ensures { λ x. ⌜ (x .session ≡ ranOf (now (sheet .entry)) (now (commands .entry)) r t .session) × (x .tally ≡ ranOf (now (sheet .entry)) (now (commands .entry)) r t .tally) × (now (codes .exit) ≡ sets (now (codes .entry)) 0 (codesOf (ranOf (now (sheet .entry)) (now (commands .entry)) r t))) × (now (keys .exit) ≡ sets (now (keys .entry)) 0 (keysOf (ranOf (now (sheet .entry)) (now (commands .entry)) r t))) ⌝ }
+{
+    let mut session = r;
+    let mut counts = t;
+    let mut at = 0;
+    let mut i = 0;
+    while at < commands.len() {
+        let bytes = command_at(commands, at);
+        let done = step_with(session, sheet, bytes, counts);
+        codes[i] = done.code;
+        keys[i] = done.key;
+        session = done.session;
+        counts = done.tally;
+        at += 3;
+        i += 1;
+    }
+    Ran {
+        session: session,
+        tally: counts,
+    }
+}
