@@ -12,10 +12,12 @@ use Rattle.net.proofs.Tables.{length-table, table-more}
 use Rattle.text.proofs.Writes.{sets-snoc}
 use Rattle.tally.specs.declared.Tally.{Tally}
 use Rattle.session.specs.declared.Record.{Record}
+use Rattle.session.specs.Records.{Sound}
 use Rattle.session.specs.Commands.{Result, commandOf}
 use Rattle.session.specs.Runs.{Answered, Session, runOf}
+use Rattle.runs.proofs.Stays.{command-sound}
 use Rattle.runs.specs.declared.Stepped.{Stepped}
-use Rattle.runs.specs.Lists.{howMany, commandAt, codeOf, codesOf, keysOf, steppedOf, ranTo, ranOf}
+use Rattle.runs.specs.Lists.{howMany, commandAt, commandsIn, codeOf, codesOf, keysOf, steppedOf, ranTo, ranOf}
 
 -- the answer that a list of them keeps
 abbrev kept : Result → Answered
@@ -37,6 +39,15 @@ run-more s (d ∷ cs) c r t =
 pub run-length : (s : List ℕ) (cs : List (List ℕ)) (r : Record) (t : Tally) → length (runOf s cs r t .answers) ≡ length cs
 run-length s [] r t = refl
 run-length s (c ∷ cs) r t = let y : Result = commandOf s r t c in ap suc (run-length s cs (y .outcome .session) (y .tally))
+
+-- from a sound record the whole list ends in a sound record
+pub run-sound : (s : List ℕ) (cs : List (List ℕ)) (r : Record) (t : Tally) → Sound s r → Sound s (runOf s cs r t .session)
+run-sound s [] r t S = S
+run-sound s (c ∷ cs) r t S = let y : Result = commandOf s r t c in run-sound s cs (y .outcome .session) (y .tally) (command-sound s r S t c)
+
+pub ran-sound : (s b : List ℕ) (r : Record) (t : Tally) → Sound s r → Sound s (ranOf s b r t .session)
+unfolding ranOf
+ran-sound s b r t S = run-sound s (commandsIn b) r t S
 
 -- ---- lists of numbers
 

@@ -1,6 +1,8 @@
 -- A whole list of commands, given as bytes (01, commands, record, tally), and what it answers from a sound record.
 -- Definitions only.
+use mathlib.Core.Bool.{Bool, true}
 use mathlib.Core.List.{List, map}
+use lib.Dec.{leb}
 use Prim.Native.Nat.{ℕ, _+_, _*_, _/_}
 use lib.ListN.{length, take, drop}
 use Rattle.net.specs.Tests.{table}
@@ -27,11 +29,17 @@ commandsIn b = table (howMany b) (commandAt b)
 
 -- ---- The answers as numbers
 
--- 0 for fired, 1 for undone, else the refusal's number; every refusal of a command on a sound record is 11 or more.
+-- 0 for fired, 1 for undone, else the refusal's number.
 abbrev pub codeOf : Answer → ℕ
 codeOf Fired = 0
 codeOf Undone = 1
 codeOf (Refused n) = n
+
+-- Fired, undone, or a refusal whose number is 11 or more: proofs/Codes shows it of every command on a sound record.
+abbrev pub toldApart : Answer → Bool
+toldApart Fired = true
+toldApart Undone = true
+toldApart (Refused n) = leb 11 n
 
 abbrev pub codesOf : Session → List ℕ
 codesOf y = map (λ (a : Answered). codeOf (a .answer)) (y .answers)
