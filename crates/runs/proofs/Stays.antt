@@ -1,6 +1,6 @@
 -- A sound record stays sound: what a command gives back can take the next command without a replay.
 -- Assumes a sound record on an accepted sheet.
-use mathlib.Core.Path.{_≡_, refl, sym, _∙_, ap, subst}
+use mathlib.Core.Path.{_≡_, sym, _∙_, ap, subst}
 use mathlib.Core.List.{List}
 use Prim.Native.Nat.{ℕ}
 use Rattle.net.specs.Journal.{Journal, act}

@@ -6,16 +6,12 @@ use Rattle.runs.proofs.Stays.{step-sound}
 use Rattle.runs.proofs.Turns.{Upto, upto-none, upto-more, upto-all}
 use borrow.Author.Needs.{needs}
 use native.Mathlib.Omega.{arith}
-use mathlib.Core.Path.{_≡_, refl, ap, sym, _∙_}
-use Prim.Native.Nat.{ℕ, suc, _+_, _-_, _*_, _<_, _≤_}
-use lib.ListN.{length-set, length, getD, take, drop, set}
-use mathlib.Core.List.{List, [], _∷_, _++_}
+use mathlib.Core.Path.{_≡_, refl, ap, _∙_}
+use Prim.Native.Nat.{ℕ, _-_, _*_, _≤_}
+use lib.ListN.{length-set, length, take, drop, set}
+use mathlib.Core.List.{List}
 use Rattle.runs.proofs.run.Statement.{statement}
 use Rattle.runs.proofs.run.Tie as tie
-use Rattle.runs.proofs.run.Reads as reads
-use Rattle.runs.proofs.run.Lts as lts
-use Rattle.runs.proofs.command_at.Reads as command-at-reads
-use Rattle.runs.proofs.step_with.Reads as step-with-reads
 
 abbrev Inv-loop : tie.InvT-loop
 Inv-loop sheet commands codes₀ keys₀ session₀ counts₀ at₀ i₀ codes keys session counts at i =
@@ -25,49 +21,38 @@ Inv-loop sheet commands codes₀ keys₀ session₀ counts₀ at₀ i₀ codes k
 abbrev μ-loop : tie.MeasureT-loop
 μ-loop sheet commands codes₀ keys₀ session₀ counts₀ at₀ i₀ codes keys session counts at i = length commands - at
 
--- src/lib.rt:83:5
 loop-holds : tie.Need-loop-holds Inv-loop μ-loop
 loop-holds c =
     let from = c .before .before .before .before in
     (search needs, search needs, from .pre .1, from .pre .2, refl, refl, from .pre .0, upto-none (from .args .sheet .now) (from .args .commands .now) (from .args .r) (from .args .t) (from .args .codes .now) (from .args .keys .now))
 
--- src/lib.rt:84:13
 command-at-requires : tie.Need-command-at-requires Inv-loop μ-loop
 command-at-requires c κs = search needs
 
--- src/lib.rt:85:13
 step-with-requires : tie.Need-step-with-requires Inv-loop μ-loop
 step-with-requires c κs = search needs
 
--- src/lib.rt:86:9
 mul-codes : tie.Need-mul-codes Inv-loop μ-loop
 mul-codes c = search needs
 
--- src/lib.rt:86:9
 slice-write-codes : tie.Need-slice-write-codes Inv-loop μ-loop
 slice-write-codes c = search needs
 
--- src/lib.rt:87:9
 mul-keys : tie.Need-mul-keys Inv-loop μ-loop
 mul-keys c = search needs
 
--- src/lib.rt:87:9
 slice-write-keys : tie.Need-slice-write-keys Inv-loop μ-loop
 slice-write-keys c = search needs
 
--- src/lib.rt:90:9
 add-at : tie.Need-add-at Inv-loop μ-loop
 add-at c = search needs
 
--- src/lib.rt:91:9
 add-i : tie.Need-add-i Inv-loop μ-loop
 add-i c = search needs
 
--- src/lib.rt:83:5
 loop-less : tie.Need-loop-less Inv-loop μ-loop
 loop-less c = search needs
 
--- src/lib.rt:83:5
 loop-again : tie.Need-loop-again Inv-loop μ-loop
 loop-again c =
     let at : tie.At-loop Inv-loop μ-loop = c .before .before .before .before .before in
@@ -85,15 +70,12 @@ loop-again c =
       upto-more (from .args .sheet .now) b (from .args .r) (from .args .t) (from .args .codes .now) (from .args .keys .now) (at .loop .i) (at .loop .session) (at .loop .counts) (at .loop .codes) (at .loop .keys) (at .loop .inv .7) _ part _ done,
     )
 
--- src/lib.rt:75:1
 same-length : tie.Need-same-length Inv-loop μ-loop
 same-length c = search needs
 
--- src/lib.rt:75:1
 same-length-2 : tie.Need-same-length-2 Inv-loop μ-loop
 same-length-2 c = search needs
 
--- src/lib.rt:75:1
 returns : tie.Need-returns Inv-loop μ-loop
 returns c =
     let at : tie.At-loop Inv-loop μ-loop = c .before in
