@@ -1,0 +1,52 @@
+-- The codes tell the answers apart: 0 fired, 1 undone, and every refusal of a command on a sound record is 11 or more.
+-- Assumes nothing.
+use mathlib.Core.Path.{_≡_, refl}
+use mathlib.Core.Bool.{Bool, true, false, not, _&&_}
+use mathlib.Core.List.{List, [], _∷_}
+use Prim.Native.Nat.{ℕ}
+use lib.Dec.{eqb, leb}
+use Rattle.causal.proofs.Tests.{both}
+use Rattle.net.specs.Tests.{pick, all}
+use Rattle.net.specs.Checks.{Check, clear, first}
+use Rattle.net.specs.Journal.{kindOf, transitionNamed, keyNamed, fireReply, undoReply, checks, fireChecks, undoChecks}
+use Rattle.net.proofs.Tests.{and-l, and-r}
+use Rattle.format.specs.NetOf.{netOf}
+use Rattle.session.specs.Records.{heldIn}
+use Rattle.session.specs.Commands.{refusal, outcomeOf, acceptOf, performOf}
+use Rattle.session.specs.declared.Record.{Record}
+use Rattle.runs.specs.Lists.{toldApart}
+
+abbrev high : Check → Bool
+high c = leb 11 (c .number)
+
+-- the first of checks with high numbers has one
+first-high : (cs : List Check) → all high cs ≡ true → clear cs ≡ false → leb 11 (first cs) ≡ true
+first-high [] h e = both true refl e
+first-high (c ∷ cs) h e = go (c .holds) e (first-high cs (and-r (high c) (all high cs) h))
+  where
+    go : (b : Bool) → (not b && clear cs) ≡ false → (clear cs ≡ false → leb 11 (first cs) ≡ true) → leb 11 (pick b (c .number) (first cs)) ≡ true
+    go true d ih = and-l (high c) (all high cs) h
+    go false d ih = ih d
+
+module _ (s : List ℕ) (r : Record) (c : List ℕ) where
+  all-high : all high (checks (netOf s) (heldIn s r) c) ≡ true
+  all-high = go (eqb (kindOf c) 1)
+    where
+      go : (b : Bool) → all high (pick b (fireChecks (netOf s) (heldIn s r) (transitionNamed c)) (undoChecks (heldIn s r) (keyNamed (heldIn s r) c))) ≡ true
+      go true = refl
+      go false = refl
+
+  accepted-told : toldApart (acceptOf s r c .answer) ≡ true
+  accepted-told = go (eqb (kindOf c) 1)
+    where
+      go : (b : Bool) → toldApart (outcomeOf (pick b (fireReply (netOf s) (heldIn s r) (transitionNamed c)) (undoReply (netOf s) (heldIn s r) (keyNamed (heldIn s r) c))) .answer) ≡ true
+      go true = refl
+      go false = refl
+
+  pub told : toldApart (performOf s r c .answer) ≡ true
+  unfolding performOf
+  told = go (clear (checks (netOf s) (heldIn s r) c)) refl
+    where
+      go : (b : Bool) → clear (checks (netOf s) (heldIn s r) c) ≡ b → toldApart (pick b (acceptOf s r c) (refusal r (first (checks (netOf s) (heldIn s r) c))) .answer) ≡ true
+      go true e = accepted-told
+      go false e = first-high (checks (netOf s) (heldIn s r) c) all-high e

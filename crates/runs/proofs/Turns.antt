@@ -1,0 +1,131 @@
+-- The fold over a list of commands, one command more at a time, as a loop over a position does it.
+-- Assumes nothing.
+use mathlib.Core.Path.{_≡_, refl, sym, _∙_, ap}
+use mathlib.Core.List.{List, [], _∷_, _++_, map}
+use Prim.Native.Nat.{ℕ, zero, suc, _+_, _-_, _<_, _≤_}
+use native.Mathlib.Nat.{zero-add}
+use native.Mathlib.Omega.{arith}
+use lib.ListN.{length, set, take, drop, length-drop}
+use lib.Seq.{sets, take-all}
+use Rattle.net.specs.Tests.{table}
+use Rattle.net.proofs.Tables.{length-table, table-more}
+use Rattle.text.proofs.Writes.{sets-snoc}
+use Rattle.tally.specs.declared.Tally.{Tally}
+use Rattle.session.specs.declared.Record.{Record}
+use Rattle.session.specs.Records.{Sound}
+use Rattle.session.specs.Commands.{Result, commandOf}
+use Rattle.session.specs.Runs.{Answered, Session, runOf}
+use Rattle.runs.proofs.Stays.{command-sound}
+use Rattle.runs.specs.declared.Stepped.{Stepped}
+use Rattle.runs.specs.Lists.{howMany, commandAt, commandsIn, codeOf, codesOf, keysOf, steppedOf, ranTo, ranOf}
+
+-- the answer that a list of them keeps
+abbrev kept : Result → Answered
+kept y = record { answer = y .outcome .answer; key = y .outcome .key }
+
+-- a session after one command more
+abbrev pub more : List ℕ → Session → List ℕ → Session
+more s y c =
+    let z : Result = commandOf s (y .session) (y .tally) c in
+    record { session = z .outcome .session; tally = z .tally; answers = y .answers ++ (kept z ∷ []) }
+
+pub run-more : (s : List ℕ) (cs : List (List ℕ)) (c : List ℕ) (r : Record) (t : Tally) → runOf s (cs ++ (c ∷ [])) r t ≡ more s (runOf s cs r t) c
+run-more s [] c r t = refl
+run-more s (d ∷ cs) c r t =
+    let y : Result = commandOf s r t d in
+    let ih = run-more s cs c (y .outcome .session) (y .tally) in
+    λ i. record { session = ih i .session; tally = ih i .tally; answers = kept y ∷ ih i .answers }
+
+pub run-length : (s : List ℕ) (cs : List (List ℕ)) (r : Record) (t : Tally) → length (runOf s cs r t .answers) ≡ length cs
+run-length s [] r t = refl
+run-length s (c ∷ cs) r t = let y : Result = commandOf s r t c in ap suc (run-length s cs (y .outcome .session) (y .tally))
+
+-- from a sound record the whole list ends in a sound record
+pub run-sound : (s : List ℕ) (cs : List (List ℕ)) (r : Record) (t : Tally) → Sound s r → Sound s (runOf s cs r t .session)
+run-sound s [] r t S = S
+run-sound s (c ∷ cs) r t S = let y : Result = commandOf s r t c in run-sound s cs (y .outcome .session) (y .tally) (command-sound s r S t c)
+
+pub ran-sound : (s b : List ℕ) (r : Record) (t : Tally) → Sound s r → Sound s (ranOf s b r t .session)
+unfolding ranOf
+ran-sound s b r t S = run-sound s (commandsIn b) r t S
+
+-- ---- lists of numbers
+
+length-map : {A : Type 0} (f : A → ℕ) (l : List A) → length (map f l) ≡ length l
+length-map f [] = refl
+length-map f (x ∷ l) = ap suc (length-map f l)
+
+map-snoc : {A : Type 0} (f : A → ℕ) (l : List A) (x : A) → map f (l ++ (x ∷ [])) ≡ map f l ++ (f x ∷ [])
+map-snoc f [] x = refl
+map-snoc f (y ∷ l) x = λ i. f y ∷ map-snoc f l x i
+
+-- one number more, stored after those of a list
+stored : {A : Type 0} (f : A → ℕ) (l : List A) (x : A) (b : List ℕ) (i : ℕ) → length l ≡ i → set (sets b 0 (map f l)) i (f x) ≡ sets b 0 (map f (l ++ (x ∷ [])))
+stored f l x b i e =
+    ap (λ (k : ℕ). set (sets b 0 (map f l)) k (f x)) (sym (zero-add (length (map f l)) ∙ length-map f l ∙ e)) ∙ sets-snoc (map f l) b 0 (f x) ∙ ap (sets b 0) (sym (map-snoc f l x))
+
+-- ---- the part of the bytes that is a command
+
+pub cut-part : (b : List ℕ) (at : ℕ) → length b - at < 3 → take (length b - at) (drop at b) ≡ take 3 (drop at b)
+cut-part b at h =
+    let e : length (drop at b) ≡ length b - at = length-drop at b in
+    let le : length (drop at b) ≤ length b - at = omega arith in
+    let lo : length (drop at b) ≤ 3 = omega arith in
+    take-all (length b - at) (drop at b) le ∙ sym (take-all 3 (drop at b) lo)
+
+pub whole-part : (b : List ℕ) (at : ℕ) → take (at + 3 - at) (drop at b) ≡ take 3 (drop at b)
+whole-part b at = let e : at + 3 - at ≡ 3 = omega arith in ap (λ (k : ℕ). take k (drop at b)) e
+
+-- ---- the run to a position
+
+-- What a loop has in hand before command i: the record, the tally, and the two slices.
+pub record Upto (s b : List ℕ) (r : Record) (t : Tally) (codes₀ keys₀ : List ℕ) (i : ℕ) (session : Record) (tally : Tally) (codes keys : List ℕ) : Type 0 where
+  pub session-is : session ≡ ranTo s b r t i .session
+  pub tally-is : tally ≡ ranTo s b r t i .tally
+  pub codes-are : codes ≡ sets codes₀ 0 (codesOf (ranTo s b r t i))
+  pub keys-are : keys ≡ sets keys₀ 0 (keysOf (ranTo s b r t i))
+
+module _ (s b : List ℕ) (r : Record) (t : Tally) where
+  to-more : (i : ℕ) → ranTo s b r t (i + 1) ≡ more s (ranTo s b r t i) (commandAt b i)
+  unfolding ranTo
+  to-more i = ap (λ (cs : List (List ℕ)). runOf s cs r t) (table-more i (commandAt b)) ∙ run-more s (table i (commandAt b)) (commandAt b i) r t
+
+  to-length : (i : ℕ) → length (ranTo s b r t i .answers) ≡ i
+  unfolding ranTo
+  to-length i = run-length s (table i (commandAt b)) r t ∙ length-table i (commandAt b)
+
+  to-all : ranTo s b r t (howMany b) ≡ ranOf s b r t
+  unfolding ranTo ranOf
+  to-all = refl
+
+  module _ (codes₀ keys₀ : List ℕ) where
+    pub upto-none : Upto s b r t codes₀ keys₀ 0 r t codes₀ keys₀
+    unfolding ranTo
+    upto-none = record { session-is = refl; tally-is = refl; codes-are = refl; keys-are = refl }
+
+    -- one command more
+    pub upto-more : (i : ℕ) (session : Record) (tally : Tally) (codes keys : List ℕ) → Upto s b r t codes₀ keys₀ i session tally codes keys
+        → (c : List ℕ) → c ≡ commandAt b i → (x : Stepped) → x ≡ steppedOf (commandOf s session tally c)
+        → Upto s b r t codes₀ keys₀ (i + 1) (x .session) (x .tally) (set codes i (x .code)) (set keys i (x .key))
+    upto-more i session tally codes keys u c e x q =
+        let y : Session = ranTo s b r t i in
+        let z : Result = commandOf s (y .session) (y .tally) (commandAt b i) in
+        let m : more s y (commandAt b i) ≡ ranTo s b r t (i + 1) = sym (to-more i) in
+        let w : x ≡ steppedOf z = q ∙ λ k. steppedOf (commandOf s (u .session-is k) (u .tally-is k) (e k)) in
+        record {
+          session-is = ap (λ (v : Stepped). v .session) w ∙ ap (λ (v : Session). v .session) m;
+          tally-is = ap (λ (v : Stepped). v .tally) w ∙ ap (λ (v : Session). v .tally) m;
+          codes-are = (λ k. set (u .codes-are k) i (w k .code)) ∙ stored (λ (a : Answered). codeOf (a .answer)) (y .answers) (kept z) codes₀ i (to-length i) ∙ ap (λ (v : Session). sets codes₀ 0 (codesOf v)) m;
+          keys-are = (λ k. set (u .keys-are k) i (w k .key)) ∙ stored (λ (a : Answered). a .key .0) (y .answers) (kept z) keys₀ i (to-length i) ∙ ap (λ (v : Session). sets keys₀ 0 (keysOf v)) m;
+        }
+
+    -- all commands
+    pub upto-all : (i : ℕ) (session : Record) (tally : Tally) (codes keys : List ℕ) → i ≡ howMany b → Upto s b r t codes₀ keys₀ i session tally codes keys
+        → (session ≡ ranOf s b r t .session) × (tally ≡ ranOf s b r t .tally) × (codes ≡ sets codes₀ 0 (codesOf (ranOf s b r t))) × (keys ≡ sets keys₀ 0 (keysOf (ranOf s b r t)))
+    upto-all i session tally codes keys e u =
+        let m : ranTo s b r t i ≡ ranOf s b r t = ap (ranTo s b r t) e ∙ to-all in (
+          u .session-is ∙ ap (λ (v : Session). v .session) m,
+          u .tally-is ∙ ap (λ (v : Session). v .tally) m,
+          u .codes-are ∙ ap (λ (v : Session). sets codes₀ 0 (codesOf v)) m,
+          u .keys-are ∙ ap (λ (v : Session). sets keys₀ 0 (keysOf v)) m,
+        )

@@ -1,0 +1,32 @@
+-- `runs::step_with` meets its contract.
+-- Assumes nothing but the laws of proofs/.
+use Rattle.runs.proofs.Stays.{stepped}
+use mathlib.Core.Path.{_≡_}
+use Prim.Native.Nat.{_-_}
+use borrow.Author.Needs.{needs}
+use Rattle.runs.proofs.step_with.Statement.{statement}
+use Rattle.runs.proofs.step_with.Tie as tie
+
+perform-requires : tie.Need-perform-requires
+perform-requires c κs = search needs
+
+count-of-requires : tie.Need-count-of-requires
+count-of-requires c κs = search needs
+
+code-of-requires : tie.Need-code-of-requires
+code-of-requires c κs = search needs
+
+counted-requires : tie.Need-counted-requires
+counted-requires c κs = search needs
+
+returns : tie.Need-returns
+returns c =
+    let own : tie.After-perform = c .before .before .before .before .before in
+    let from = own .before .before .before in
+    stepped (from .args .sheet .now) (from .args .r) (from .pre) (from .args .t) (from .args .bytes .now) _ (own .perform .ensures)
+    _ (c .before .before .before .before .count-of .ensures) _ (c .before .before .before .code-of .ensures) _ (c .before .before .counted .ensures)
+
+pub step-with-spec : {M : Type 1} → statement M
+step-with-spec =
+    tie.close
+    (tie.spec perform-requires count-of-requires code-of-requires counted-requires returns)

@@ -1,0 +1,2 @@
+-- What a whole list of commands, given as bytes, comes to.
+pub mod Lists
