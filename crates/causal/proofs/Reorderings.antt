@@ -2,14 +2,14 @@
 -- Assumes nothing.
 use mathlib.Core.Path.{_≡_, refl, sym, _∙_, ap}
 use mathlib.Core.Logic.{_⊎_, inl, inr, _≢_}
-use mathlib.Core.Bool.{Bool, true, false}
+use mathlib.Core.Bool.{Bool, true}
 use mathlib.Core.List.{List, [], _∷_, _++_}
 use Prim.Native.Nat.{suc}
 use lib.ListN.{length}
-use Rattle.causal.specs.Lists.{Mem, Before, Distinct}
+use Rattle.causal.specs.Lists.{Mem, Before}
 use Rattle.causal.specs.Reorderings.{Line, DistinctKeys, Independent, Dependent, Reordering, Swapped, stay, swap, under, chain}
 use Rattle.causal.proofs.Tests.{test, both}
-use Rattle.causal.proofs.Lists.{mem-skip, mem-unskip, mem-mid, mem-split, before-mem, before-mem′, before-mid, before-skip, distinct-skip, distinct-mid}
+use Rattle.causal.proofs.Lists.{mem-skip, mem-unskip, mem-split, before-mem, before-mem′, before-mid, before-skip, distinct-skip, distinct-mid}
 
 module _ {M P : Type 0} (has : M → P → Bool) where
   pub independent-sym : {m n : M} → Independent has m n → Independent has n m

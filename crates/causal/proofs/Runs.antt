@@ -1,7 +1,7 @@
 -- What the local laws of one step give, for any number of steps: taking back a line on which nothing later depends,
 -- swapping independent neighbours, running any reordering. Assumes nothing but the laws handed in.
 use mathlib.Core.Path.{_≡_, refl, sym, _∙_}
-use mathlib.Core.Bool.{Bool, true, false}
+use mathlib.Core.Bool.{Bool}
 use mathlib.Core.List.{List, [], _∷_, _++_}
 use Rattle.causal.specs.Reorderings.{Line, DistinctKeys, Independent, IndependentOfAll, Reordering, Swapped, stay, swap, under, chain}
 use Rattle.causal.specs.Runs.{Run, AgreeOn, AgreeOff, Laws}

@@ -1,14 +1,14 @@
 -- Document 01's marked cases, the list of check numbers, and a case where two refusals hold: all by computation.
 -- Assumes nothing.
 use mathlib.Core.Path.{_≡_, refl}
-use mathlib.Core.Bool.{Bool, true, false}
+use mathlib.Core.Bool.{true}
 use mathlib.Core.List.{List, [], _∷_}
 use Prim.Native.Nat.{ℕ}
 use Rattle.net.specs.Tests.{keep}
-use Rattle.net.specs.Net.{Marking, Net}
+use Rattle.net.specs.Net.{Net}
 use Rattle.net.specs.Rules.{netRule}
 use Rattle.net.specs.Checks.{Check, numbers}
-use Rattle.net.specs.Journal.{Journal, refused, transition, begin, act, play, checks, readChecks, fireChecks, undoChecks}
+use Rattle.net.specs.Journal.{Journal, refused, begin, act, play, checks, readChecks, fireChecks, undoChecks}
 use Rattle.net.specs.Cases.{netB, fireOf, marked, AllHold}
 use Rattle.net.specs.declared.Transition.{Transition}
 use Rattle.net.specs.declared.Key.{Key}

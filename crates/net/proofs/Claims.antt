@@ -1,6 +1,6 @@
 -- All that specs/Claims says, of every net that meets the sheet's rules; and that sheet B's net is one.
 -- Assumes nothing.
-use mathlib.Core.Path.{_≡_, refl}
+use mathlib.Core.Path.{_≡_}
 use mathlib.Core.Bool.{true}
 use Rattle.net.specs.Net.{Net}
 use Rattle.net.specs.Rules.{netRule}

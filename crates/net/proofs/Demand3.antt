@@ -1,8 +1,7 @@
 -- Demand 3 on the journal: the lines left after any list of commands run forward to the session's marking, in their own
 -- order and in every reordering. Assumes that the net meets the sheet's rules.
 use mathlib.Core.Path.{_≡_, refl, sym, _∙_, ap}
-use mathlib.Core.Logic.{inl, inr}
-use mathlib.Core.Bool.{Bool, true, false, not, _&&_}
+use mathlib.Core.Bool.{Bool, true}
 use mathlib.Core.List.{List, [], _∷_, _++_, append-assoc, append-nil}
 use Prim.Native.Nat.{ℕ, suc, _<_, _≤_, _+_, _*_, _/_, _%_}
 use native.Mathlib.Omega.{arith}
@@ -17,9 +16,9 @@ use Rattle.net.specs.Tests.{pick}
 use Rattle.net.specs.Net.{Marking, Net, arcsOf}
 use Rattle.net.specs.Rules.{netRule}
 use Rattle.net.specs.Marking.{Good}
-use Rattle.net.specs.Firing.{inSet, fire, undo, Fires}
+use Rattle.net.specs.Firing.{inSet, undo, Fires}
 use Rattle.net.specs.Checks.{clear, first}
-use Rattle.net.specs.Journal.{LiveLine, Journal, Reply, fired, transition, key, highestLive, lastGiven, fireChecks, newLine, fireReply, refuse, begin, act, play, answers}
+use Rattle.net.specs.Journal.{LiveLine, Journal, Reply, fired, transition, key, highestLive, lastGiven, fireChecks, fireReply, refuse, begin, act, play, answers}
 use Rattle.net.specs.Claims.{fireCommand, fireCommands, numbered, allFired, Forward, Demand3}
 use Rattle.net.specs.declared.Transition.{Transition}
 use Rattle.net.proofs.Moves.{view}

@@ -15,17 +15,17 @@ use Rattle.causal.proofs.Lists.{mem-skip}
 use Rattle.causal.proofs.Runs.{run-join, take-back}
 use Rattle.net.specs.Limits.{maxLive, maxKey}
 use Rattle.net.specs.Tests.{pick}
-use Rattle.net.specs.Net.{Arcs, Marking, Net, arcsOf}
+use Rattle.net.specs.Net.{Marking, Net, arcsOf}
 use Rattle.net.specs.Rules.{netRule}
 use Rattle.net.specs.Marking.{Good}
 use Rattle.net.specs.Firing.{inSet, moved, fire, undo, Fires}
-use Rattle.net.specs.Checks.{Check, clear, first}
-use Rattle.net.specs.Journal.{LiveLine, Journal, Reply, highestLive, lastGiven, isLive, lineOf, without, builtOn, kindOf, readChecks, enableChecks, spaceChecks, fireChecks, undoChecks, kindChecks, checks, transitionNamed, keyNamed, newLine, fireReply, undoReply, refuse, begin, act, play}
+use Rattle.net.specs.Checks.{clear}
+use Rattle.net.specs.Journal.{LiveLine, Journal, Reply, highestLive, lastGiven, isLive, lineOf, without, builtOn, kindOf, readChecks, enableChecks, spaceChecks, fireChecks, undoChecks, kindChecks, checks, transitionNamed, keyNamed, newLine, fireReply, undoReply, begin, act, play}
 use Rattle.net.specs.declared.Transition.{Transition}
 use Rattle.net.specs.declared.Key.{Key}
 use Rattle.net.proofs.Tests.{and-l, and-r, pick-case}
 use Rattle.net.proofs.Checks.{clear-off, clear-append}
-use Rattle.net.proofs.Moves.{Fit, view}
+use Rattle.net.proofs.Moves.{view}
 use Rattle.net.proofs.Laws.{laws}
 use Rattle.net.proofs.Rules.{fits, start-good}
 use Rattle.net.proofs.Keys.{Up, highest-snoc, highest-skip, length-skip, mem-snoc, up-snoc, up-skip, up-after, live-split, without-split, independent-later, builtOn-after}

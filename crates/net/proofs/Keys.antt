@@ -1,10 +1,10 @@
 -- Laws of the journal's lines: keys in order, a line added at the end, a line found by its key and taken out.
 -- Assumes nothing.
-use mathlib.Core.Path.{_≡_, refl, sym, _∙_, ap}
+use mathlib.Core.Path.{_≡_, refl, ap}
 use mathlib.Core.Logic.{_⊎_, inl, inr}
-use mathlib.Core.Bool.{Bool, true, false, not, _&&_, _||_}
+use mathlib.Core.Bool.{Bool, true, false, _&&_, _||_}
 use mathlib.Core.List.{List, [], _∷_, _++_}
-use Prim.Native.Nat.{ℕ, zero, suc, _<_, _≤_, max}
+use Prim.Native.Nat.{ℕ, zero, suc, _<_, _≤_}
 use native.Mathlib.Omega.{arith}
 use lib.Dec.{eqb, ltb}
 use lib.ListN.{length}
@@ -17,7 +17,7 @@ use Rattle.net.specs.Tests.{pick}
 use Rattle.net.specs.Firing.{inSet}
 use Rattle.net.specs.Journal.{LiveLine, sameKey, highestLive, isLive, lineOf, without, common, builtOn}
 use Rattle.net.specs.declared.Key.{Key}
-use Rattle.net.proofs.Tests.{fails, and-i, or-e, or-l, or-r, or-no-l, or-no-r}
+use Rattle.net.proofs.Tests.{fails, and-i, or-l, or-r, or-no-l, or-no-r}
 
 -- ---- keys in order
 

@@ -4,11 +4,11 @@ use mathlib.Core.Path.{_≡_, refl, sym, _∙_, ap}
 use mathlib.Core.Logic.{_⊎_, inl, inr}
 use mathlib.Core.Bool.{Bool, true, false, _||_}
 use mathlib.Core.List.{List, [], _∷_}
-use Prim.Native.Nat.{ℕ, _<_, _≤_}
+use Prim.Native.Nat.{ℕ, _<_}
 use native.Mathlib.Omega.{arith}
 use Rattle.causal.specs.Lists.{Mem}
 use Rattle.causal.proofs.Tests.{both}
-use Rattle.net.specs.Tests.{pick, table}
+use Rattle.net.specs.Tests.{pick}
 use Rattle.net.specs.Sorted.{Ascending}
 use Rattle.net.specs.Net.{Arcs, Marking, Net, bond, sameBond, lessBond, hasBond, place}
 use Rattle.net.specs.Connection.{bonded, Leads, here, along, connected}

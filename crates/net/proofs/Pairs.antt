@@ -2,7 +2,6 @@
 -- as many as there are pairs of bases. Assumes nothing.
 use mathlib.Core.Path.{_≡_, refl, sym, _∙_, ap}
 use mathlib.Core.Logic.{_⊎_, inl, inr}
-use mathlib.Core.Bool.{Bool, true, false}
 use mathlib.Core.List.{List, [], _∷_, _++_}
 use Prim.Native.Nat.{ℕ, zero, suc, _+_, _*_, _-_, _<_, _≤_}
 use native.Mathlib.Omega.{arith}
@@ -15,7 +14,7 @@ use Rattle.causal.proofs.Tests.{test, both}
 use Rattle.causal.proofs.Lists.{mem-split, mem-unskip}
 use Rattle.net.specs.Tests.{table}
 use Rattle.net.specs.Sorted.{Ascending}
-use Rattle.net.specs.Net.{Marking, Net, bond, sameBond, lessBond, hasBond}
+use Rattle.net.specs.Net.{Marking, Net, bond, sameBond, lessBond}
 use Rattle.net.specs.Marking.{Good}
 use Rattle.net.specs.Claims.{FewBonds}
 use Rattle.net.specs.declared.Bond.{Bond}

@@ -5,7 +5,7 @@ use mathlib.Core.Bool.{Bool, true, false}
 use mathlib.Core.List.{List, [], _∷_}
 use Prim.Native.Nat.{ℕ}
 use Rattle.net.specs.Net.{Arcs, Marking, Net, bond}
-use Rattle.net.specs.Journal.{LiveLine, Journal, Answer, fired, undone, refused, Reply, transition, key, begin, act, play}
+use Rattle.net.specs.Journal.{LiveLine, Answer, fired, undone, refused, transition, key, begin, act, play}
 use Rattle.net.specs.declared.Bond.{Bond}
 use Rattle.net.specs.declared.Entry.{Entry}
 

@@ -3,7 +3,6 @@
 use mathlib.Core.Bool.{Bool, not}
 use mathlib.Core.List.{List, [], _∷_, map}
 use Prim.Native.Nat.{ℕ}
-use lib.Dec.{eqb}
 use Rattle.net.specs.Tests.{pick, all}
 
 -- A refusal: its number, and whether its condition holds.

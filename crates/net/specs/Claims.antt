@@ -1,7 +1,7 @@
 -- What is claimed of the journal, for every net that meets the sheet's rules and every list of commands: statements
 -- only; proofs/ has a proof of each.
 use mathlib.Core.Path.{_≡_}
-use mathlib.Core.Bool.{Bool, true, not}
+use mathlib.Core.Bool.{true, not}
 use mathlib.Core.List.{List, [], _∷_, map}
 use Prim.Native.Nat.{ℕ, suc, _+_, _*_, _-_, _/_, _%_, _≤_}
 use lib.ListN.{length}

@@ -1,7 +1,7 @@
 -- Firing a transition and taking it back, on markings (01, firing and taking back; refusals 13 to 16).
 -- Definitions only. A set of bases is a list of flags, one for each base; n is the number of bases.
 use mathlib.Core.Path.{_≡_}
-use mathlib.Core.Bool.{Bool, true, false, not, _&&_}
+use mathlib.Core.Bool.{Bool, false, not, _&&_}
 use mathlib.Core.List.{List, [], _∷_}
 use Prim.Native.Nat.{ℕ, _<_}
 use lib.Dec.{eqb}

@@ -2,7 +2,6 @@
 -- Definitions only. The form of a record's fields is the crate session's.
 use mathlib.Core.Bool.{Bool, _&&_, Bool·beq}
 use mathlib.Core.List.{List, [], _∷_}
-use Prim.Native.Nat.{ℕ}
 use lib.Dec.{eqb, ltb, leb}
 use lib.ListN.{length}
 use Rattle.net.specs.Limits.{maxLive, maxKey}

@@ -1,6 +1,6 @@
 -- The journal (01, the session book): fed the net and the commands' bytes alone, it says what a session is.
 -- Definitions only. Numbers and checking order are those of 01's turned-away list.
-use mathlib.Core.Bool.{Bool, true, false, not, _&&_, _||_}
+use mathlib.Core.Bool.{Bool, false, not, _&&_, _||_}
 use mathlib.Core.List.{List, [], _∷_, _++_}
 use Prim.Native.Nat.{ℕ, suc, max, _+_, _*_}
 use lib.Dec.{eqb, ltb, leb}
@@ -8,7 +8,7 @@ use lib.ListN.{getD, length}
 use Rattle.causal.specs.Reorderings.{Line}
 use Rattle.net.specs.Limits.{maxLive, maxKey}
 use Rattle.net.specs.Tests.{pick, any, keep}
-use Rattle.net.specs.Net.{Arcs, Marking, Net, arcsOf}
+use Rattle.net.specs.Net.{Marking, Net, arcsOf}
 use Rattle.net.specs.Firing.{moved, fire, undo, misplaced, bondAbsent, bondPresent, tornApart}
 use Rattle.net.specs.Checks.{Check, check, clear, first}
 use Rattle.net.specs.declared.Transition.{Transition}

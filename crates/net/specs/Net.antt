@@ -1,7 +1,7 @@
 -- The net that a sheet describes (01, the sheet): places, bases, bonds, transitions, the start.
 -- Definitions only. Bonds and entries are the structs of src/lib.rt.
 use mathlib.Core.Bool.{Bool, _&&_, _||_}
-use mathlib.Core.List.{List, [], _∷_}
+use mathlib.Core.List.{List, []}
 use Prim.Native.Nat.{ℕ}
 use lib.Dec.{eqb, ltb}
 use lib.ListN.{getD}
