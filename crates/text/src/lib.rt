@@ -7,7 +7,7 @@ ghost use lib.Seq.{sets};
 ghost use Rattle.text.specs.Decimal.{digits};
 
 // The last `places` digits of n, with no zero in front. Answers where the text ends.
-// The callers have checked that the buffer is long enough, as for the two functions below.
+// The callers have checked that the buffer is long enough, as for the function below.
 pub fn put_digits(buf: &mut [u8], at: usize, n: u32, places: usize) -> usize
     requires { ⌜ at + places ≤ length (now buf) ⌝ }
     ensures { λ r. ⌜ (r ≡ at + length (digits places n)) × (now (buf .exit) ≡ sets (now (buf .entry)) at (digits places n)) ⌝ }
