@@ -1,3 +1,5 @@
+-- `firings::blocks` meets its contract.
+-- Assumes nothing but the laws of proofs/.
 use mathlib.Core.Path.{sym}
 use Prim.Native.Nat.{_-_}
 use mathlib.Core.Bool.{or-false}
@@ -5,11 +7,9 @@ use borrow.Author.Needs.{needs}
 use Rattle.firings.proofs.blocks.Statement.{statement}
 use Rattle.firings.proofs.blocks.Tie as tie
 
--- src/lib.rt:182:27
 shares-requires : tie.Need-shares-requires
 shares-requires c κs = search needs
 
--- src/lib.rt:177:1
 returns : tie.Need-returns
 returns c = rw (c .shares .ensures) (sym (or-false _))
 

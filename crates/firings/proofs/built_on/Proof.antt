@@ -1,3 +1,5 @@
+-- `firings::built_on` meets its contract.
+-- Assumes nothing but the laws of proofs/.
 use borrow.Author.Needs.{needs}
 use native.Mathlib.Omega.{arith}
 use mathlib.Core.Path.{_≡_, refl, _∙_}
@@ -16,39 +18,30 @@ Inv-loop live i firings f found₀ j₀ found j = (j ≤ live) × (live ≤ maxL
 abbrev μ-loop : tie.MeasureT-loop
 μ-loop live i firings f found₀ j₀ found j = live - j
 
--- src/lib.rt:190:13
 mul-f : tie.Need-mul-f Inv-loop μ-loop
 mul-f c = search needs
 
--- src/lib.rt:190:13
 array-copy-out-f : tie.Need-array-copy-out-f Inv-loop μ-loop
 array-copy-out-f c = search needs
 
--- src/lib.rt:193:5
 loop-holds : tie.Need-loop-holds Inv-loop μ-loop
 loop-holds c = (search needs, search needs, search needs, refl, refl)
 
--- src/lib.rt:194:17
 mul-g : tie.Need-mul-g Inv-loop μ-loop
 mul-g c = search needs
 
--- src/lib.rt:194:17
 array-copy-out-g : tie.Need-array-copy-out-g Inv-loop μ-loop
 array-copy-out-g c = search needs
 
--- src/lib.rt:195:25
 blocks-requires : tie.Need-blocks-requires Inv-loop μ-loop
 blocks-requires c κs = search needs
 
--- src/lib.rt:196:9
 add-j : tie.Need-add-j Inv-loop μ-loop
 add-j c = search needs
 
--- src/lib.rt:193:5
 loop-less : tie.Need-loop-less Inv-loop μ-loop
 loop-less c = search needs
 
--- src/lib.rt:193:5
 loop-again : tie.Need-loop-again Inv-loop μ-loop
 loop-again c =
     let at : tie.At-loop Inv-loop μ-loop = c .before .before .before in (
@@ -59,7 +52,6 @@ loop-again c =
       any-taken _ (at .before .before .args .t1) past (at .loop .j) (at .loop .found) _ (omega arith) (at .loop .inv .4) (c .blocks2 .ensures),
     )
 
--- src/lib.rt:186:1
 returns : tie.Need-returns Inv-loop μ-loop
 returns c =
     let at : tie.At-loop Inv-loop μ-loop = c .before in

@@ -1,3 +1,5 @@
+-- `firings::closed_up` meets its contract.
+-- Assumes nothing but the laws of proofs/.
 use borrow.Author.Needs.{needs}
 use native.Mathlib.Omega.{arith}
 use mathlib.Core.Path.{_≡_, refl, ap, _∙_}
@@ -30,47 +32,36 @@ Inv-loop live i firings left next₀ j₀ next j =
 abbrev μ-loop : tie.MeasureT-loop
 μ-loop live i firings left next₀ j₀ next j = left - j
 
--- src/lib.rt:48:16
 sub-left : tie.Need-sub-left Inv-loop μ-loop
 sub-left c = search needs
 
--- src/lib.rt:49:21
 no-firing-requires : tie.Need-no-firing-requires Inv-loop μ-loop
 no-firing-requires c κs = search needs
 
--- src/lib.rt:51:5
 loop-holds : tie.Need-loop-holds Inv-loop μ-loop
 loop-holds c = (search needs, search needs, search needs, ap (replicate maxLive) (c .no-firing .ensures), refl)
 
--- src/lib.rt:52:13
 past-gap-requires : tie.Need-past-gap-requires Inv-loop μ-loop
 past-gap-requires c κs = search needs
 
--- src/lib.rt:53:17
 mul-f : tie.Need-mul-f Inv-loop μ-loop
 mul-f c = search needs
 
--- src/lib.rt:53:17
 array-copy-out-f : tie.Need-array-copy-out-f Inv-loop μ-loop
 array-copy-out-f c = search needs
 
--- src/lib.rt:54:9
 mul-next : tie.Need-mul-next Inv-loop μ-loop
 mul-next c = search needs
 
--- src/lib.rt:54:9
 array-set-from-next : tie.Need-array-set-from-next Inv-loop μ-loop
 array-set-from-next c = search needs
 
--- src/lib.rt:55:9
 add-j : tie.Need-add-j Inv-loop μ-loop
 add-j c = search needs
 
--- src/lib.rt:51:5
 loop-less : tie.Need-loop-less Inv-loop μ-loop
 loop-less c = search needs
 
--- src/lib.rt:51:5
 loop-again : tie.Need-loop-again Inv-loop μ-loop
 loop-again c =
     let at : tie.At-loop Inv-loop μ-loop = c .before .before .before in
@@ -82,7 +73,6 @@ loop-again c =
       fill-turn (gap (at .before .before .args .i) (λ x. getD (at .before .before .args .t1) x past)) (at .loop .j) _ _ past _ (omega arith) (gap-read (at .before .before .args .t1) past (at .before .before .args .i) (at .loop .j) _ (c .before .past-gap .ensures .0)) (at .loop .inv .4),
     )
 
--- src/lib.rt:44:1
 returns : tie.Need-returns Inv-loop μ-loop
 returns c = left-out (c .before .before .before .args .live) (c .before .before .before .args .i) (c .before .loop .j) (c .before .before .before .args .t1) _ _ (omega arith) (c .before .loop .inv .3) (c .before .loop .inv .4)
 

@@ -1,3 +1,5 @@
+-- `firings::is_no_firing` meets its contract.
+-- Assumes nothing but the laws of proofs/.
 use native.Mathlib.Omega.{arith}
 use Prim.Native.Nat.{_-_}
 use borrow.Author.Needs.{needs}
@@ -8,11 +10,9 @@ use Rattle.firings.proofs.Laid.{is-none}
 use Rattle.firings.proofs.is_no_firing.Statement.{statement}
 use Rattle.firings.proofs.is_no_firing.Tie as tie
 
--- src/lib.rt:71:9
 clear-from-requires : tie.Need-clear-from-requires
 clear-from-requires c κs = search needs
 
--- src/lib.rt:66:1
 returns : tie.Need-returns
 returns c =
     let f = c .before .before .before .before .args .f in

@@ -1,3 +1,5 @@
+-- `firings::keys_climb` meets its contract.
+-- Assumes nothing but the laws of proofs/.
 use borrow.Author.Needs.{needs}
 use native.Mathlib.Omega.{arith}
 use mathlib.Core.Path.{_≡_, refl}
@@ -17,27 +19,21 @@ Inv-loop live firings ok₀ last₀ i₀ ok last i = (i ≤ live) × (live ≤ m
 abbrev μ-loop : tie.MeasureT-loop
 μ-loop live firings ok₀ last₀ i₀ ok last i = live - i
 
--- src/lib.rt:120:5
 loop-holds : tie.Need-loop-holds Inv-loop μ-loop
 loop-holds c = (search needs, search needs, refl)
 
--- src/lib.rt:121:17
 mul-f : tie.Need-mul-f Inv-loop μ-loop
 mul-f c = search needs
 
--- src/lib.rt:121:17
 array-copy-out-f : tie.Need-array-copy-out-f Inv-loop μ-loop
 array-copy-out-f c = search needs
 
--- src/lib.rt:125:9
 add-i : tie.Need-add-i Inv-loop μ-loop
 add-i c = search needs
 
--- src/lib.rt:120:5
 loop-less : tie.Need-loop-less Inv-loop μ-loop
 loop-less c = search needs
 
--- src/lib.rt:120:5
 loop-again : tie.Need-loop-again Inv-loop μ-loop
 loop-again c =
     let at : tie.At-loop Inv-loop μ-loop = c .before .before in (
@@ -46,7 +42,6 @@ loop-again c =
       climb-turn (λ j. getD (at .before .args .t1) j past .key .0) (at .before .args .live) (at .loop .i) (at .loop .last) _ (at .loop .ok) (omega arith) (at .loop .inv .2),
     )
 
--- src/lib.rt:113:1
 returns : tie.Need-returns Inv-loop μ-loop
 returns c = climb-end (λ j. getD (c .before .before .args .t1) j past .key .0) (c .before .before .args .live) (c .before .loop .i) (c .before .loop .last) _ _ (omega arith) (c .before .loop .inv .2)
 

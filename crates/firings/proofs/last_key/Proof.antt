@@ -1,26 +1,23 @@
+-- `firings::last_key` meets its contract.
+-- Assumes nothing but the laws of proofs/.
 use Prim.Native.Nat.{_-_}
 use borrow.Author.Needs.{needs}
 use borrow.Author.Tests.{eq-eqb, ne-eqb}
 use Rattle.firings.proofs.last_key.Statement.{statement}
 use Rattle.firings.proofs.last_key.Tie as tie
 
--- src/lib.rt:154:9
 returns : tie.Need-returns
 returns c = rw (eq-eqb _ _ (c .if1 .taken))
 
--- src/lib.rt:156:21
 sub-f : tie.Need-sub-f
 sub-f c = search needs
 
--- src/lib.rt:156:13
 mul-f : tie.Need-mul-f
 mul-f c = search needs
 
--- src/lib.rt:156:13
 array-copy-out-f : tie.Need-array-copy-out-f
 array-copy-out-f c = search needs
 
--- src/lib.rt:149:1
 returns-2 : tie.Need-returns-2
 returns-2 c = rw (ne-eqb _ _ (c .before .if1 .left))
 

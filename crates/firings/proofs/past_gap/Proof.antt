@@ -1,3 +1,5 @@
+-- `firings::past_gap` meets its contract.
+-- Assumes nothing but the laws of proofs/.
 use native.Mathlib.Omega.{arith}
 use Prim.Native.Nat.{_-_}
 use borrow.Author.Tests.{lt-ltb, le-ltb}
@@ -5,15 +7,12 @@ use borrow.Author.Needs.{needs}
 use Rattle.firings.proofs.past_gap.Statement.{statement}
 use Rattle.firings.proofs.past_gap.Tie as tie
 
--- src/lib.rt:46:27
 add-result : tie.Need-add-result
 add-result c = search needs
 
--- src/lib.rt:42:1
 returns : tie.Need-returns
 returns c = (rw (lt-ltb _ _ (c .if1 .taken)), omega arith)
 
--- src/lib.rt:42:1
 returns-2 : tie.Need-returns-2
 returns-2 c = (rw (le-ltb _ _ (c .if1 .left)), omega arith)
 

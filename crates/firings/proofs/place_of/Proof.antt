@@ -1,3 +1,5 @@
+-- `firings::place_of` meets its contract.
+-- Assumes nothing but the laws of proofs/.
 use borrow.Author.Needs.{needs}
 use native.Mathlib.Omega.{arith}
 use mathlib.Core.Path.{_≡_}
@@ -17,39 +19,31 @@ Inv-loop live key firings i₀ i = (i ≤ live) × (live ≤ maxLive) × (placeO
 abbrev μ-loop : tie.MeasureT-loop
 μ-loop live key firings i₀ i = live - i
 
--- src/lib.rt:166:5
 loop-holds : tie.Need-loop-holds Inv-loop μ-loop
 loop-holds c = (search needs, search needs, omega arith)
 
--- src/lib.rt:167:17
 mul-f : tie.Need-mul-f Inv-loop μ-loop
 mul-f c = search needs
 
--- src/lib.rt:167:17
 array-copy-out-f : tie.Need-array-copy-out-f Inv-loop μ-loop
 array-copy-out-f c = search needs
 
--- src/lib.rt:169:13
 returns : tie.Need-returns Inv-loop μ-loop
 returns c =
     let at : tie.At-loop Inv-loop μ-loop = c .before .before .before .before .before in
     place-found _ (λ j. getD (at .before .args .t1) j past .key .0) _ _ (at .loop .i) (c .before .before .before .before .loop-test .taken) (at .loop .inv .2) (c .if1 .taken)
 
--- src/lib.rt:171:9
 add-i : tie.Need-add-i Inv-loop μ-loop
 add-i c = search needs
 
--- src/lib.rt:166:5
 loop-less : tie.Need-loop-less Inv-loop μ-loop
 loop-less c = search needs
 
--- src/lib.rt:166:5
 loop-again : tie.Need-loop-again Inv-loop μ-loop
 loop-again c =
     let at : tie.At-loop Inv-loop μ-loop = c .before .before .before .before .before in
     (search needs, search needs, place-on _ (λ j. getD (at .before .args .t1) j past .key .0) _ _ (at .loop .i) (c .before .before .before .before .loop-test .taken) (at .loop .inv .2) (c .if1 .left))
 
--- src/lib.rt:161:1
 returns-2 : tie.Need-returns-2 Inv-loop μ-loop
 returns-2 c =
     let at : tie.At-loop Inv-loop μ-loop = c .before in

@@ -1,3 +1,5 @@
+-- `firings::same_flags` meets its contract.
+-- Assumes nothing but the laws of proofs/.
 use borrow.Author.Needs.{needs}
 use native.Mathlib.Omega.{arith}
 use mathlib.Core.Path.{_≡_, refl, ap, _∙_}
@@ -16,27 +18,21 @@ Inv-loop n a b ok₀ i₀ ok i = (i ≤ n) × (n ≤ maxBases) × (length a ≡ 
 abbrev μ-loop : tie.MeasureT-loop
 μ-loop n a b ok₀ i₀ ok i = n - i
 
--- src/lib.rt:38:5
 loop-holds : tie.Need-loop-holds Inv-loop μ-loop
 loop-holds c = (search needs, search needs, search needs, search needs, refl)
 
--- src/lib.rt:39:20
 array-read-ok : tie.Need-array-read-ok Inv-loop μ-loop
 array-read-ok c = search needs
 
--- src/lib.rt:39:28
 array-read-ok-2 : tie.Need-array-read-ok-2 Inv-loop μ-loop
 array-read-ok-2 c = search needs
 
--- src/lib.rt:40:9
 add-i : tie.Need-add-i Inv-loop μ-loop
 add-i c = search needs
 
--- src/lib.rt:38:5
 loop-less : tie.Need-loop-less Inv-loop μ-loop
 loop-less c = search needs
 
--- src/lib.rt:38:5
 loop-again : tie.Need-loop-again Inv-loop μ-loop
 loop-again c =
     let at : tie.At-loop Inv-loop μ-loop = c .before in (
@@ -47,7 +43,6 @@ loop-again c =
       same-taken Bool·beq (at .before .args .t1) (at .before .args .t2) false (at .loop .i) (at .loop .ok) (omega arith) (omega arith) (at .loop .inv .4),
     )
 
--- src/lib.rt:32:1
 returns : tie.Need-returns Inv-loop μ-loop
 returns c =
     let all-read : c .before .loop .i ≡ c .before .before .args .n = omega arith in

@@ -1,3 +1,5 @@
+-- `firings::unused_in_form` meets its contract.
+-- Assumes nothing but the laws of proofs/.
 use borrow.Author.Needs.{needs}
 use native.Mathlib.Omega.{arith}
 use mathlib.Core.Path.{_≡_, refl, ap, sym, _∙_}
@@ -20,31 +22,24 @@ Inv-loop live firings ok₀ i₀ ok i =
 abbrev μ-loop : tie.MeasureT-loop
 μ-loop live firings ok₀ i₀ ok i = maxLive - i
 
--- src/lib.rt:99:5
 loop-holds : tie.Need-loop-holds Inv-loop μ-loop
 loop-holds c = (search needs, refl, search needs, λ h j a k. absurd (let z : ⊥ = omega arith in z))
 
--- src/lib.rt:100:17
 mul-f : tie.Need-mul-f Inv-loop μ-loop
 mul-f c = search needs
 
--- src/lib.rt:100:17
 array-copy-out-f : tie.Need-array-copy-out-f Inv-loop μ-loop
 array-copy-out-f c = search needs
 
--- src/lib.rt:101:19
 is-no-firing-requires : tie.Need-is-no-firing-requires Inv-loop μ-loop
 is-no-firing-requires c κs = search needs
 
--- src/lib.rt:102:9
 add-i : tie.Need-add-i Inv-loop μ-loop
 add-i c = search needs
 
--- src/lib.rt:99:5
 loop-less : tie.Need-loop-less Inv-loop μ-loop
 loop-less c = search needs
 
--- src/lib.rt:99:5
 loop-again : tie.Need-loop-again Inv-loop μ-loop
 loop-again c =
     let at : tie.At-loop Inv-loop μ-loop = c .before .before .before in (
@@ -54,7 +49,6 @@ loop-again c =
       λ h. unused-more (at .before .args .live) (at .loop .i) (at .before .args .t1) (at .loop .inv .3 (and-l (at .loop .ok) _ h)) (c .is-no-firing .ensures .1 (and-r (at .loop .ok) _ h)),
     )
 
--- src/lib.rt:93:1
 returns : tie.Need-returns Inv-loop μ-loop
 returns c = (
   rest-end isNoFiring (c .before .before .args .t1) (c .before .loop .i) _ _ (omega arith) (c .before .loop .inv .1),

@@ -1,3 +1,5 @@
+-- `firings::used_in_form` meets its contract.
+-- Assumes nothing but the laws of proofs/.
 use borrow.Author.Needs.{needs}
 use native.Mathlib.Omega.{arith}
 use mathlib.Core.Path.{_≡_, refl, ap, _∙_}
@@ -23,31 +25,24 @@ Inv-loop live n firings ok₀ i₀ ok i =
 abbrev μ-loop : tie.MeasureT-loop
 μ-loop live n firings ok₀ i₀ ok i = live - i
 
--- src/lib.rt:83:5
 loop-holds : tie.Need-loop-holds Inv-loop μ-loop
 loop-holds c = (search needs, search needs, search needs, refl, λ h e j k. absurd (not-suc-le-zero k))
 
--- src/lib.rt:84:17
 mul-f : tie.Need-mul-f Inv-loop μ-loop
 mul-f c = search needs
 
--- src/lib.rt:84:17
 array-copy-out-f : tie.Need-array-copy-out-f Inv-loop μ-loop
 array-copy-out-f c = search needs
 
--- src/lib.rt:86:19
 clear-from-requires : tie.Need-clear-from-requires Inv-loop μ-loop
 clear-from-requires c κs = search needs
 
--- src/lib.rt:87:9
 add-i : tie.Need-add-i Inv-loop μ-loop
 add-i c = search needs
 
--- src/lib.rt:83:5
 loop-less : tie.Need-loop-less Inv-loop μ-loop
 loop-less c = search needs
 
--- src/lib.rt:83:5
 loop-again : tie.Need-loop-again Inv-loop μ-loop
 loop-again c =
     let at : tie.At-loop Inv-loop μ-loop = c .before .before .before .before in (
@@ -59,7 +54,6 @@ loop-again c =
           (as-line (at .before .args .n) (getD (at .before .args .t1) (at .loop .i) past) (c .clear-from .ensures .1 (and-r (at .loop .ok) _ h) e)),
     )
 
--- src/lib.rt:76:1
 returns : tie.Need-returns Inv-loop μ-loop
 returns c =
     let all-read : c .before .loop .i ≡ c .before .before .args .live = omega arith in (

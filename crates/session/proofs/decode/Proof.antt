@@ -1,38 +1,32 @@
+-- `session::decode` meets its contract.
+-- Assumes nothing but the laws of proofs/.
 use Prim.Native.Nat.{_-_}
 use Rattle.session.proofs.Decoding.{is-fire, is-undo, no-kind, no-number, is-undo-last}
 use borrow.Author.Needs.{needs}
 use Rattle.session.proofs.decode.Statement.{statement}
 use Rattle.session.proofs.decode.Tie as tie
 
--- src/lib.rt:52:9
 byte-at-requires : tie.Need-byte-at-requires
 byte-at-requires c κs = search needs
 
--- src/lib.rt:53:18
 word-at-requires : tie.Need-word-at-requires
 word-at-requires c κs = search needs
 
--- src/lib.rt:53:18
 cast-number : tie.Need-cast-number
 cast-number c = search needs
 
--- src/lib.rt:55:9
 returns : tie.Need-returns
 returns c = is-fire (c .before .before .before .before .args .bytes .now) _ _ (c .before .before .byte-at .ensures) (c .before .word-at .ensures .0) (c .if1 .taken)
 
--- src/lib.rt:58:9
 returns-2 : tie.Need-returns-2
 returns-2 c = is-undo (c .before .before .before .before .before .args .bytes .now) _ _ (c .before .before .before .byte-at .ensures) (c .before .before .word-at .ensures .0) (c .if2 .taken)
 
--- src/lib.rt:61:9
 returns-3 : tie.Need-returns-3
 returns-3 c = no-kind (c .before .before .before .before .before .before .args .bytes .now) _ _ (c .before .before .before .before .byte-at .ensures) (c .before .before .before .word-at .ensures .0) (c .before .before .if1 .left) (c .if3 .taken) (c .before .if2 .left)
 
--- src/lib.rt:64:9
 returns-4 : tie.Need-returns-4
 returns-4 c = no-number (c .before .before .before .before .before .before .before .args .bytes .now) _ _ (c .before .before .before .before .before .byte-at .ensures) (c .before .before .before .before .word-at .ensures .0) (c .before .if3 .left) (c .if4 .taken)
 
--- src/lib.rt:49:1
 returns-5 : tie.Need-returns-5
 returns-5 c = is-undo-last (c .before .before .before .before .before .before .before .args .bytes .now) _ _ (c .before .before .before .before .before .byte-at .ensures) (c .before .before .before .before .word-at .ensures .0) (c .before .if3 .left) (c .if4 .left)
 

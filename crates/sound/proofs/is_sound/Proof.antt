@@ -1,3 +1,5 @@
+-- `sound::is_sound` meets its contract.
+-- Assumes nothing but the laws of proofs/.
 use mathlib.Core.Path.{_≡_, refl, ap, sym, _∙_}
 use Prim.Native.Nat.{ℕ, _-_}
 use mathlib.Core.List.{List}
@@ -37,55 +39,44 @@ sound-is c =
     c .runs-to .ensures ∙ ap (λ (m : Marking). replays (netOf s) (markingOf (basesOf s) m) ls z) (c .before .start-marking .ensures) ∙ from-start s (c .before .before .before .before .before .before .before .before .before .before .pre) ls z
     ∙ by-run (c .before .before .before .before .before .before .before .before .before .before .args .sheet .now) (c .before .before .before .before .before .before .before .before .before .before .args .m) (c .before .before .before .before .before .before .before .before .before .before .args .live) (c .before .before .before .before .before .before .before .before .before .before .args .firings) (c .before .before .before .before .before .before .before .if1 .left) (sym (gathered (c .before .before .before)) ∙ not-false _ (c .before .before .if2 .left))
 
--- src/lib.rt:73:13
 base-count-requires : tie.Need-base-count-requires
 base-count-requires c κs = search needs
 
--- src/lib.rt:73:13
 cast-n : tie.Need-cast-n
 cast-n c = search needs
 
--- src/lib.rt:75:9
 returns : tie.Need-returns
 returns c = (
   too-many (c .before .before .before .args .sheet .now) (c .before .before .before .args .m) (c .before .before .before .args .live) (c .before .before .before .args .firings) (c .if1 .taken),
   λ h. both false h refl,
 )
 
--- src/lib.rt:77:9
 in-form-requires : tie.Need-in-form-requires
 in-form-requires c κs = search needs
 
--- src/lib.rt:78:9
 used-in-form-requires : tie.Need-used-in-form-requires
 used-in-form-requires c κs = search needs
 
--- src/lib.rt:79:9
 unused-in-form-requires : tie.Need-unused-in-form-requires
 unused-in-form-requires c κs = search needs
 
--- src/lib.rt:80:9
 keys-climb-requires : tie.Need-keys-climb-requires
 keys-climb-requires c κs = search needs
 
--- src/lib.rt:82:9
 returns-2 : tie.Need-returns-2
 returns-2 c = (
   unsound (c .before .before .before .before .before .before .before .before .args .sheet .now) (c .before .before .before .before .before .before .before .before .args .m) (c .before .before .before .before .before .before .before .before .args .live) (c .before .before .before .before .before .before .before .before .args .firings) (c .before .before .before .before .before .if1 .left) (sym (gathered (c .before)) ∙ not-true _ (c .if2 .taken)),
   λ h. both false h refl,
 )
 
--- src/lib.rt:84:9
 start-marking-requires : tie.Need-start-marking-requires
 start-marking-requires c κs = start-fits _ (c .before .before .before .before .before .before .before .before .pre)
 
--- src/lib.rt:85:5
 runs-to-requires : tie.Need-runs-to-requires
 runs-to-requires c κs =
     let passed = sym (gathered (c .before .before)) ∙ not-false _ (c .before .if2 .left) in
     (rw (c .start-marking .ensures) (start-placed _ (c .before .before .before .before .before .before .before .before .before .pre)), c .before .before .before .before .before .before .if1 .left, leb-true _ _ (and-l _ _ (and-l _ _ passed)))
 
--- src/lib.rt:69:1
 returns-3 : tie.Need-returns-3
 returns-3 c =
     let s : List ℕ = c .before .before .before .before .before .before .before .before .before .before .args .sheet .now in

@@ -1,3 +1,5 @@
+-- `sound::line_accepted` meets its contract.
+-- Assumes nothing but the laws of proofs/.
 use native.Mathlib.Omega.{arith}
 use mathlib.Core.Path.{_≡_}
 use Prim.Native.Nat.{_-_}
@@ -17,35 +19,27 @@ use Rattle.sound.proofs.line_accepted.Tie as tie
 passed : (c : tie.Else1) → clear (enableChecks (netOf (c .before .before .before .before .before .args .sheet .now)) (markingOf (basesOf (c .before .before .before .before .before .args .sheet .now)) (c .before .before .before .before .before .args .m)) (transition (c .before .before .before .before .before .args .f .transition))) ≡ true
 passed c = line-clear (c .before .before .before .before .before .args .sheet .now) (c .before .before .before .before .before .args .m) (c .before .before .before .before .before .args .f) _ (c .before .enable-refusal .ensures) (c .if1 .left)
 
--- src/lib.rt:38:13
 base-count-requires : tie.Need-base-count-requires
 base-count-requires c κs = search needs
 
--- src/lib.rt:38:13
 cast-n : tie.Need-cast-n
 cast-n c = search needs
 
--- src/lib.rt:39:24
 cast-t9 : tie.Need-cast-t9
 cast-t9 c = search needs
 
--- src/lib.rt:40:8
 enable-refusal-requires : tie.Need-enable-refusal-requires
 enable-refusal-requires c κs = c .before .before .before .pre
 
--- src/lib.rt:41:9
 returns : tie.Need-returns
 returns c = line-refused (c .before .before .before .before .before .args .sheet .now) (c .before .before .before .before .before .args .m) (c .before .before .before .before .before .args .f) _ (c .before .enable-refusal .ensures) (c .if1 .taken)
 
--- src/lib.rt:44:9
 moved-by-requires : tie.Need-moved-by-requires
 moved-by-requires c κs = (c .before .before .before .before .before .before .pre, enabled-listed (c .before .before .before .before .before .before .args .sheet .now) (markingOf (basesOf (c .before .before .before .before .before .before .args .sheet .now)) (c .before .before .before .before .before .before .args .m)) (transition (c .before .before .before .before .before .before .args .f .transition)) (passed (c .before)))
 
--- src/lib.rt:45:5
 same-flags-requires : tie.Need-same-flags-requires
 same-flags-requires c κs = let e = c .before .before .before .before .before .base-count .ensures in let h = few-bases _ _ (c .before .before .before .before .before .before .before .pre) in omega arith
 
--- src/lib.rt:34:1
 returns-2 : tie.Need-returns-2
 returns-2 c = line-same (c .before .before .before .before .before .before .before .before .args .sheet .now) (c .before .before .before .before .before .before .before .before .args .m) (c .before .before .before .before .before .before .before .before .args .f) _ _ _ (passed (c .before .before .before)) (c .before .before .before .before .before .before .base-count .ensures) (c .before .moved-by .ensures) (c .same-flags .ensures)
 

@@ -1,3 +1,5 @@
+-- `sound::runs_to` meets its contract.
+-- Assumes nothing but the laws of proofs/.
 use mathlib.Core.Bool.{true}
 use borrow.Author.Tests.{not-true, not-false}
 use Rattle.net.specs.Limits.{maxLive, maxBonds}
@@ -34,62 +36,49 @@ accepted : (c : tie.Else1 Inv-loop μ-loop) → accepts (netOf (c .before .befor
     (lineOf (basesOf (c .before .before .before .before .before .before .args .sheet .now)) (getD (c .before .before .before .before .before .before .args .t3) (c .before .before .before .before .loop .i) past)) ≡ true
 accepted c = sym (c .before .line-accepted .ensures) ∙ not-false _ (c .if1 .left)
 
--- src/lib.rt:56:5
 loop-holds : tie.Need-loop-holds Inv-loop μ-loop
 loop-holds c = (search needs, c .before .pre .1, c .before .pre .2, c .before .pre .0, refl)
 
--- src/lib.rt:57:17
 mul-f : tie.Need-mul-f Inv-loop μ-loop
 mul-f c = search needs
 
--- src/lib.rt:57:17
 array-copy-out-f : tie.Need-array-copy-out-f Inv-loop μ-loop
 array-copy-out-f c = search needs
 
--- src/lib.rt:58:13
 line-accepted-requires : tie.Need-line-accepted-requires Inv-loop μ-loop
 line-accepted-requires c κs = c .before .before .loop .inv .3
 
--- src/lib.rt:59:13
 returns : tie.Need-returns Inv-loop μ-loop
 returns c =
     let at : tie.At-loop Inv-loop μ-loop = c .before .before .before .before in
     run-stops (at .before .before .args .sheet .now) (at .before .before .args .t3) (at .before .before .args .live) (markingOf (basesOf (at .before .before .args .sheet .now)) (at .before .before .args .end)) _ (at .loop .now-at) (at .loop .i) (c .before .before .before .loop-test .taken) (at .loop .inv .4) (sym (c .before .line-accepted .ensures) ∙ not-true _ (c .if1 .taken))
 
--- src/lib.rt:61:50
 cast-t17 : tie.Need-cast-t17 Inv-loop μ-loop
 cast-t17 c = search needs
 
--- src/lib.rt:61:9
 fired-requires : tie.Need-fired-requires Inv-loop μ-loop
 fired-requires c κs =
     let at : tie.At-loop Inv-loop μ-loop = c .before .before .before .before .before in
     (at .loop .inv .3, enabled-listed (at .before .before .args .sheet .now) (markingOf (basesOf (at .before .before .args .sheet .now)) (at .loop .now-at)) (transition (getD (at .before .before .args .t3) (at .loop .i) past .transition)) (and-l _ _ (accepted (c .before))))
 
--- src/lib.rt:62:9
 add-i : tie.Need-add-i Inv-loop μ-loop
 add-i c = search needs
 
--- src/lib.rt:56:5
 loop-less : tie.Need-loop-less Inv-loop μ-loop
 loop-less c = search needs
 
--- src/lib.rt:56:5
 loop-again : tie.Need-loop-again Inv-loop μ-loop
 loop-again c =
     let at : tie.At-loop Inv-loop μ-loop = c .before .before .before .before .before .before in
     let (P, e) = run-goes (at .before .before .args .sheet .now) (at .before .before .args .t3) (at .before .before .args .live) (markingOf (basesOf (at .before .before .args .sheet .now)) (at .before .before .args .end)) _ (at .loop .now-at) _ (at .loop .i) (c .before .before .before .before .before .loop-test .taken) (at .loop .inv .3) (at .loop .inv .4) (accepted (c .before .before)) (c .fired .ensures) in
     (search needs, search needs, search needs, P, e)
 
--- src/lib.rt:64:13
 base-count-requires : tie.Need-base-count-requires Inv-loop μ-loop
 base-count-requires c κs = search needs
 
--- src/lib.rt:64:13
 cast-n : tie.Need-cast-n Inv-loop μ-loop
 cast-n c = search needs
 
--- src/lib.rt:65:5
 same-marking-requires : tie.Need-same-marking-requires Inv-loop μ-loop
 same-marking-requires c κs =
     let at : tie.At-loop Inv-loop μ-loop = c .before .before in
@@ -97,7 +86,6 @@ same-marking-requires c κs =
     let h = few-bases _ _ (at .loop .inv .3) in
     (omega arith, placed-room _ _ (at .loop .inv .3), at .loop .inv .2)
 
--- src/lib.rt:50:1
 returns-2 : tie.Need-returns-2 Inv-loop μ-loop
 returns-2 c =
     let at : tie.At-loop Inv-loop μ-loop = c .before .before .before in

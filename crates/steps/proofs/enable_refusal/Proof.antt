@@ -1,3 +1,5 @@
+-- `steps::enable_refusal` meets its contract.
+-- Assumes nothing but the laws of proofs/.
 use native.Mathlib.Omega.{arith}
 use mathlib.Core.Path.{_≡_, sym, _∙_}
 use Prim.Native.Nat.{ℕ, _-_, _<_}
@@ -72,63 +74,48 @@ test-16 : (c : tie.After-torn-apart) → c .torn-apart .result
     (Seen (c .before .before .before .before .before .before .before))
 test-16 c = c .torn-apart .ensures ∙ net-test tornApart (c .before .before .before .before .before .before .before)
 
--- src/lib.rt:31:13
 base-count-requires : tie.Need-base-count-requires
 base-count-requires c κs = search needs
 
--- src/lib.rt:31:13
 cast-n : tie.Need-cast-n
 cast-n c = search needs
 
--- src/lib.rt:32:8
 transition-count-requires : tie.Need-transition-count-requires
 transition-count-requires c κs = search needs
 
--- src/lib.rt:32:8
 cast-if1 : tie.Need-cast-if1
 cast-if1 c = search needs
 
--- src/lib.rt:33:9
 returns : tie.Need-returns
 returns c = let e = c .before .before .transition-count .ensures in let h = c .if1 .taken in refused-12 (c .before .before .before .before .before .args .sheet .now) (c .before .before .before .before .before .args .t) (markingOf (basesOf (c .before .before .before .before .before .args .sheet .now)) (c .before .before .before .before .before .args .m)) (omega arith)
 
--- src/lib.rt:35:9
 transition-bytes-requires : tie.Need-transition-bytes-requires
 transition-bytes-requires c κs = search needs
 
--- src/lib.rt:36:8
 misplaced-requires : tie.Need-misplaced-requires
 misplaced-requires c κs = ready-of c
 
--- src/lib.rt:37:9
 returns-2 : tie.Need-returns-2
 returns-2 c = refused-13 (Sheet (c .before .before)) (Given (c .before .before)) (Seen (c .before .before)) (listed (c .before .before)) (sym (test-13 (c .before)) ∙ c .if2 .taken)
 
--- src/lib.rt:39:8
 bond-absent-requires : tie.Need-bond-absent-requires
 bond-absent-requires c κs = room _ _ _ (ready-of (c .before .before))
 
--- src/lib.rt:40:9
 returns-3 : tie.Need-returns-3
 returns-3 c = refused-14 (Sheet (c .before .before .before .before)) (Given (c .before .before .before .before)) (Seen (c .before .before .before .before)) (listed (c .before .before .before .before)) (passed-13 (c .before .before)) (sym (test-14 (c .before)) ∙ c .if3 .taken)
 
--- src/lib.rt:42:8
 bond-present-requires : tie.Need-bond-present-requires
 bond-present-requires c κs = room _ _ _ (ready-of (c .before .before .before .before))
 
--- src/lib.rt:43:9
 returns-4 : tie.Need-returns-4
 returns-4 c = refused-15 (Sheet (c .before .before .before .before .before .before)) (Given (c .before .before .before .before .before .before)) (Seen (c .before .before .before .before .before .before)) (listed (c .before .before .before .before .before .before)) (passed-13 (c .before .before .before .before)) (passed-14 (c .before .before)) (sym (test-15 (c .before)) ∙ c .if4 .taken)
 
--- src/lib.rt:45:8
 torn-apart-requires : tie.Need-torn-apart-requires
 torn-apart-requires c κs = ready-of (c .before .before .before .before .before .before)
 
--- src/lib.rt:46:9
 returns-5 : tie.Need-returns-5
 returns-5 c = refused-16 (Sheet (c .before .before .before .before .before .before .before .before)) (Given (c .before .before .before .before .before .before .before .before)) (Seen (c .before .before .before .before .before .before .before .before)) (listed (c .before .before .before .before .before .before .before .before)) (passed-13 (c .before .before .before .before .before .before)) (passed-14 (c .before .before .before .before)) (passed-15 (c .before .before)) (sym (test-16 (c .before)) ∙ c .if5 .taken)
 
--- src/lib.rt:27:1
 returns-6 : tie.Need-returns-6
 returns-6 c = enabled (Sheet (c .before .before .before .before .before .before .before .before)) (Given (c .before .before .before .before .before .before .before .before)) (Seen (c .before .before .before .before .before .before .before .before)) (listed (c .before .before .before .before .before .before .before .before)) (passed-13 (c .before .before .before .before .before .before)) (passed-14 (c .before .before .before .before)) (passed-15 (c .before .before)) (sym (test-16 (c .before)) ∙ c .if5 .left)
 

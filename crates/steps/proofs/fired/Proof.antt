@@ -1,3 +1,5 @@
+-- `steps::fired` meets its contract.
+-- Assumes nothing but the laws of proofs/.
 use mathlib.Core.Path.{_∙_}
 use Prim.Native.Nat.{_-_}
 use Rattle.net.specs.Firing.{fire}
@@ -7,23 +9,18 @@ use borrow.Author.Needs.{needs}
 use Rattle.steps.proofs.fired.Statement.{statement}
 use Rattle.steps.proofs.fired.Tie as tie
 
--- src/lib.rt:68:13
 base-count-requires : tie.Need-base-count-requires
 base-count-requires c κs = search needs
 
--- src/lib.rt:68:13
 cast-n : tie.Need-cast-n
 cast-n c = search needs
 
--- src/lib.rt:69:9
 transition-bytes-requires : tie.Need-transition-bytes-requires
 transition-bytes-requires c κs = search needs
 
--- src/lib.rt:70:5
 fire-requires : tie.Need-fire-requires
 fire-requires c κs = ready-at _ _ _ _ _ (c .before .base-count .ensures) (c .transition-bytes .ensures) (c .before .before .before .pre .0) (c .before .before .before .pre .1)
 
--- src/lib.rt:64:1
 returns : tie.Need-returns
 returns c =
     let n = c .before .before .base-count .ensures in

@@ -1,3 +1,5 @@
+-- `steps::moved_by` meets its contract.
+-- Assumes nothing but the laws of proofs/.
 use mathlib.Core.Path.{_∙_}
 use Prim.Native.Nat.{_-_}
 use Rattle.net.specs.Firing.{moved}
@@ -7,23 +9,18 @@ use borrow.Author.Needs.{needs}
 use Rattle.steps.proofs.moved_by.Statement.{statement}
 use Rattle.steps.proofs.moved_by.Tie as tie
 
--- src/lib.rt:56:13
 base-count-requires : tie.Need-base-count-requires
 base-count-requires c κs = search needs
 
--- src/lib.rt:56:13
 cast-n : tie.Need-cast-n
 cast-n c = search needs
 
--- src/lib.rt:57:9
 transition-bytes-requires : tie.Need-transition-bytes-requires
 transition-bytes-requires c κs = search needs
 
--- src/lib.rt:58:5
 moved-bases-requires : tie.Need-moved-bases-requires
 moved-bases-requires c κs = ready-at _ _ _ _ _ (c .before .base-count .ensures) (c .transition-bytes .ensures) (c .before .before .before .pre .0) (c .before .before .before .pre .1)
 
--- src/lib.rt:52:1
 returns : tie.Need-returns
 returns c =
     let n = c .before .before .base-count .ensures in

@@ -1,3 +1,5 @@
+-- `text::put_digits` meets its contract.
+-- Assumes nothing but the laws of proofs/.
 use mathlib.Core.List.{[], _∷_, _++_}
 use Rattle.text.specs.Decimal.{digits}
 use mathlib.Core.Path.{_≡_, refl}
@@ -26,7 +28,6 @@ abbrev put-digits-below : ℕ → In 1 put-digits-kinds.ps
 put-digits-below t =
     and 1 put-digits-kinds.ps (falls 1 put-digits-kinds.ps _<_ μ-put-digits t) put-digits.Pre
 
--- src/lib.rt:15:9
 put-digits-returns :
     (t : ℕ) →
     put-digits-lts.Need-returns
@@ -35,7 +36,6 @@ put-digits-returns :
     put-digits.Post
 put-digits-returns t c = rw (c .if1 .taken) (omega arith, refl)
 
--- src/lib.rt:18:20
 put-digits-add-buf :
     (t : ℕ) →
     put-digits-lts.Need-add-buf
@@ -44,7 +44,6 @@ put-digits-add-buf :
     put-digits.Post
 put-digits-add-buf t c = search needs
 
--- src/lib.rt:18:19
 put-digits-cast-buf :
     (t : ℕ) →
     put-digits-lts.Need-cast-buf
@@ -53,84 +52,72 @@ put-digits-cast-buf :
     put-digits.Post
 put-digits-cast-buf t c = search needs
 
--- src/lib.rt:18:9
 put-digits-slice-write-buf : (t : ℕ) → put-digits-lts.Need-slice-write-buf (
   put-digits-below t,
   put-digits.Post,
 ) (put-digits-at t) put-digits.Post
 put-digits-slice-write-buf t c = search needs
 
--- src/lib.rt:19:16
 put-digits-add-result : (t : ℕ) → put-digits-lts.Need-add-result (
   put-digits-below t,
   put-digits.Post,
 ) (put-digits-at t) put-digits.Post
 put-digits-add-result t c = search needs
 
--- src/lib.rt:19:9
 put-digits-same-length : (t : ℕ) → put-digits-lts.Need-same-length (
   put-digits-below t,
   put-digits.Post,
 ) (put-digits-at t) put-digits.Post
 put-digits-same-length t c = search needs
 
--- src/lib.rt:19:9
 put-digits-returns-2 : (t : ℕ) → put-digits-lts.Need-returns-2 (
   put-digits-below t,
   put-digits.Post,
 ) (put-digits-at t) put-digits.Post
 put-digits-returns-2 t c = rw (digits-one _ _ (c .before .if1 .left) (c .if2 .taken)) (refl, refl)
 
--- src/lib.rt:21:41
 put-digits-sub-put-digits : (t : ℕ) → put-digits-lts.Need-sub-put-digits (
   put-digits-below t,
   put-digits.Post,
 ) (put-digits-at t) put-digits.Post
 put-digits-sub-put-digits t c = search needs
 
--- src/lib.rt:21:9
 put-digits-put-digits-requires : (t : ℕ) → put-digits-lts.Need-put-digits-requires (
   put-digits-below t,
   put-digits.Post,
 ) (put-digits-at t) put-digits.Post
 put-digits-put-digits-requires t c κs = search needs
 
--- src/lib.rt:22:15
 put-digits-add-buf-2 : (t : ℕ) → put-digits-lts.Need-add-buf-2 (
   put-digits-below t,
   put-digits.Post,
 ) (put-digits-at t) put-digits.Post
 put-digits-add-buf-2 t c = search needs
 
--- src/lib.rt:22:14
 put-digits-cast-buf-2 : (t : ℕ) → put-digits-lts.Need-cast-buf-2 (
   put-digits-below t,
   put-digits.Post,
 ) (put-digits-at t) put-digits.Post
 put-digits-cast-buf-2 t c = search needs
 
--- src/lib.rt:22:5
 put-digits-slice-write-buf-2 : (t : ℕ) → put-digits-lts.Need-slice-write-buf-2 (
   put-digits-below t,
   put-digits.Post,
 ) (put-digits-at t) put-digits.Post
 put-digits-slice-write-buf-2 t c = omega (arith, digits-length ((c .before .before .before .before .before .before .before .args .places) - 1) ((c .before .before .before .before .before .before .before .args .n) / 10))
 
--- src/lib.rt:23:5
 put-digits-add-result-2 : (t : ℕ) → put-digits-lts.Need-add-result-2 (
   put-digits-below t,
   put-digits.Post,
 ) (put-digits-at t) put-digits.Post
 put-digits-add-result-2 t c = omega (arith, digits-length ((c .before .before .before .before .before .before .before .args .places) - 1) ((c .before .before .before .before .before .before .before .args .n) / 10))
 
--- src/lib.rt:10:1
 put-digits-same-length-2 : (t : ℕ) → put-digits-lts.Need-same-length-2 (
   put-digits-below t,
   put-digits.Post,
 ) (put-digits-at t) put-digits.Post
 put-digits-same-length-2 t c = search needs
 
--- src/lib.rt:10:1
 put-digits-returns-3 : (t : ℕ) → put-digits-lts.Need-returns-3 (
   put-digits-below t,
   put-digits.Post,

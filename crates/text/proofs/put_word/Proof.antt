@@ -1,3 +1,5 @@
+-- `text::put_word` meets its contract.
+-- Assumes nothing but the laws of proofs/.
 use lib.Seq.{sets, take-length}
 use Rattle.text.proofs.Writes.{copied-more}
 use borrow.Author.Needs.{needs}
@@ -14,31 +16,24 @@ Inv-loop buf₀ at word i₀ buf i = (i ≤ length word) × (at + length word �
 abbrev μ-loop : tie.MeasureT-loop
 μ-loop buf₀ at word i₀ buf i = length word - i
 
--- src/lib.rt:32:5
 loop-holds : tie.Need-loop-holds Inv-loop μ-loop
 loop-holds c = search needs
 
--- src/lib.rt:33:23
 shared-slice-read-buf : tie.Need-shared-slice-read-buf Inv-loop μ-loop
 shared-slice-read-buf c = search needs
 
--- src/lib.rt:33:13
 add-buf : tie.Need-add-buf Inv-loop μ-loop
 add-buf c = search needs
 
--- src/lib.rt:33:9
 slice-write-buf : tie.Need-slice-write-buf Inv-loop μ-loop
 slice-write-buf c = search needs
 
--- src/lib.rt:34:9
 add-i : tie.Need-add-i Inv-loop μ-loop
 add-i c = search needs
 
--- src/lib.rt:32:5
 loop-less : tie.Need-loop-less Inv-loop μ-loop
 loop-less c = search needs
 
--- src/lib.rt:32:5
 loop-again : tie.Need-loop-again Inv-loop μ-loop
 loop-again c =
     let at : tie.At-loop Inv-loop μ-loop = c .before .before in (
@@ -48,15 +43,12 @@ loop-again c =
       rw (at .loop .inv .3) (copied-more _ _ _ (at .loop .i) (c .before .loop-test .taken)),
     )
 
--- src/lib.rt:36:5
 add-result : tie.Need-add-result Inv-loop μ-loop
 add-result c = search needs
 
--- src/lib.rt:27:1
 same-length : tie.Need-same-length Inv-loop μ-loop
 same-length c = c .before .loop .inv .2
 
--- src/lib.rt:27:1
 returns : tie.Need-returns Inv-loop μ-loop
 returns c =
     let e : c .before .loop .i ≡ length (c .before .before .args .word .now) = omega arith in

@@ -1,3 +1,5 @@
+-- `session::Record::answer` meets its contract.
+-- Assumes nothing but the laws of proofs/.
 use mathlib.Core.Path.{sym, _∙_}
 use Prim.Native.Nat.{_-_}
 use borrow.Author.Tests.{not-true, not-false}
@@ -6,41 +8,32 @@ use borrow.Author.Needs.{needs}
 use Rattle.session.proofs.Record.answer.Statement.{statement}
 use Rattle.session.proofs.Record.answer.Tie as tie
 
--- src/lib.rt:221:13
 check-sheet-requires : tie.Need-check-sheet-requires
 check-sheet-requires c κs = search needs
 
--- src/lib.rt:222:13
 sheet-number-requires : tie.Need-sheet-number-requires
 sheet-number-requires c κs = search needs
 
--- src/lib.rt:224:13
 refused-requires : tie.Need-refused-requires
 refused-requires c κs = search needs
 
--- src/lib.rt:224:13
 returns : tie.Need-returns
 returns c = c .refused .ensures ∙ sheet-refused (c .before .before .before .before .before .before .args .sheet .now) (c .before .before .before .before .before .before .args .self) (c .before .before .before .before .before .before .args .bytes .now) _ (c .before .before .sheet-number .ensures ∙ c .before .before .before .check-sheet .ensures .1) (c .before .if1 .taken)
 
--- src/lib.rt:229:13
 is-sound-requires : tie.Need-is-sound-requires
 is-sound-requires c κs = sheet-clear (c .before .before .before .before .before .before .before .args .sheet .now) _ (c .before .before .before .sheet-number .ensures ∙ c .before .before .before .before .check-sheet .ensures .1) (c .before .before .if1 .left)
 
--- src/lib.rt:230:13
 refused-requires-2 : tie.Need-refused-requires-2
 refused-requires-2 c κs = search needs
 
--- src/lib.rt:230:13
 returns-2 : tie.Need-returns-2
 returns-2 c = c .refused2 .ensures ∙ record-refused (c .before .before .before .before .before .before .before .before .before .before .args .sheet .now) (c .before .before .before .before .before .before .before .before .before .before .args .self) (c .before .before .before .before .before .before .before .before .before .before .args .bytes .now) (sheet-clear (c .before .before .before .before .before .before .before .before .before .before .args .sheet .now) _ (c .before .before .before .before .before .before .sheet-number .ensures ∙ c .before .before .before .before .before .before .before .check-sheet .ensures .1) (c .before .before .before .before .before .if1 .left)) (sym (c .before .before .is-sound .ensures .0) ∙ not-true _ (c .before .if2 .taken))
 
--- src/lib.rt:232:9
 perform-requires : tie.Need-perform-requires
 perform-requires c κs =
     let yes = not-false _ (c .if2 .left) in
     sound-of (c .before .before .before .before .before .before .before .before .before .args .sheet .now) (c .before .before .before .before .before .before .before .before .before .args .self) (sheet-clear (c .before .before .before .before .before .before .before .before .before .args .sheet .now) _ (c .before .before .before .before .before .sheet-number .ensures ∙ c .before .before .before .before .before .before .check-sheet .ensures .1) (c .before .before .before .before .if1 .left)) (sym (c .before .is-sound .ensures .0) ∙ yes) (c .before .is-sound .ensures .1 yes)
 
--- src/lib.rt:218:5
 returns-3 : tie.Need-returns-3
 returns-3 c = c .perform .ensures ∙ performed (c .before .before .before .before .before .before .before .before .before .before .args .sheet .now) (c .before .before .before .before .before .before .before .before .before .before .args .self) (c .before .before .before .before .before .before .before .before .before .before .args .bytes .now) (sheet-clear (c .before .before .before .before .before .before .before .before .before .before .args .sheet .now) _ (c .before .before .before .before .before .before .sheet-number .ensures ∙ c .before .before .before .before .before .before .before .check-sheet .ensures .1) (c .before .before .before .before .before .if1 .left)) (sym (c .before .before .is-sound .ensures .0) ∙ not-false _ (c .before .if2 .left))
 

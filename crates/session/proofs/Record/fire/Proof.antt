@@ -1,3 +1,5 @@
+-- `session::Record::fire` meets its contract.
+-- Assumes nothing but the laws of proofs/.
 use native.Mathlib.Omega.{arith}
 use mathlib.Core.Path.{_∙_}
 use Prim.Native.Nat.{_-_}
@@ -8,74 +10,57 @@ use borrow.Author.Needs.{needs}
 use Rattle.session.proofs.Record.fire.Statement.{statement}
 use Rattle.session.proofs.Record.fire.Tie as tie
 
--- src/lib.rt:136:13
 enable-refusal-requires : tie.Need-enable-refusal-requires
 enable-refusal-requires c κs = placed (c .before .before .before .args .sheet .now) (c .before .before .before .args .self) (c .before .before .before .pre)
 
--- src/lib.rt:138:13
 refused-requires : tie.Need-refused-requires
 refused-requires c κs = search needs
 
--- src/lib.rt:138:13
 returns : tie.Need-returns
 returns c = c .refused .ensures ∙ not-enabled (c .before .before .before .before .before .before .args .sheet .now) (c .before .before .before .before .before .before .args .self) (c .before .before .before .before .before .before .args .t) (c .before .before .before .before .before .before .pre) _ (c .before .before .enable-refusal .ensures) (c .before .if1 .taken)
 
--- src/lib.rt:141:13
 refused-requires-2 : tie.Need-refused-requires-2
 refused-requires-2 c κs = search needs
 
--- src/lib.rt:141:13
 returns-2 : tie.Need-returns-2
 returns-2 c = c .refused2 .ensures ∙ full (c .before .before .before .before .before .before .before .args .sheet .now) (c .before .before .before .before .before .before .before .args .self) (c .before .before .before .before .before .before .before .args .t) (c .before .before .before .before .before .before .before .pre) _ (c .before .before .before .enable-refusal .ensures) (c .before .before .if1 .left) (c .before .if2 .taken)
 
--- src/lib.rt:143:13
 last-key-requires : tie.Need-last-key-requires
 last-key-requires c κs = search needs
 
--- src/lib.rt:145:13
 refused-requires-3 : tie.Need-refused-requires-3
 refused-requires-3 c κs = search needs
 
--- src/lib.rt:145:13
 returns-3 : tie.Need-returns-3
 returns-3 c = c .refused3 .ensures ∙ spent (c .before .before .before .before .before .before .before .before .before .args .sheet .now) (c .before .before .before .before .before .before .before .before .before .args .self) (c .before .before .before .before .before .before .before .before .before .args .t) (c .before .before .before .before .before .before .before .before .before .pre) _ (c .before .before .before .before .before .enable-refusal .ensures) (c .before .before .before .before .if1 .left) (c .before .before .before .if2 .left) _ (c .before .before .last-key .ensures) (c .before .if3 .taken)
 
--- src/lib.rt:147:13
 moved-by-requires : tie.Need-moved-by-requires
 moved-by-requires c κs = (placed (c .before .before .before .before .before .before .before .before .args .sheet .now) (c .before .before .before .before .before .before .before .before .args .self) (c .before .before .before .before .before .before .before .before .pre), listed (c .before .before .before .before .before .before .before .before .args .sheet .now) (c .before .before .before .before .before .before .before .before .args .self) (c .before .before .before .before .before .before .before .before .args .t) (c .before .before .before .before .before .before .before .before .pre) _ (c .before .before .before .before .enable-refusal .ensures) (c .before .before .before .if1 .left))
 
--- src/lib.rt:149:24
 fired-requires : tie.Need-fired-requires
 fired-requires c κs = (placed (c .before .before .before .before .before .before .before .before .before .args .sheet .now) (c .before .before .before .before .before .before .before .before .before .args .self) (c .before .before .before .before .before .before .before .before .before .pre), listed (c .before .before .before .before .before .before .before .before .before .args .sheet .now) (c .before .before .before .before .before .before .before .before .before .args .self) (c .before .before .before .before .before .before .before .before .before .args .t) (c .before .before .before .before .before .before .before .before .before .pre) _ (c .before .before .before .before .before .enable-refusal .ensures) (c .before .before .before .before .if1 .left))
 
--- src/lib.rt:150:21
 add-next : tie.Need-add-next
 add-next c = search needs
 
--- src/lib.rt:152:25
 cast-t14 : tie.Need-cast-t14
 cast-t14 c =
     let h = listed (c .before .before .before .before .before .before .before .before .before .before .before .args .sheet .now) (c .before .before .before .before .before .before .before .before .before .before .before .args .self) (c .before .before .before .before .before .before .before .before .before .before .before .args .t) (c .before .before .before .before .before .before .before .before .before .before .before .pre) _ (c .before .before .before .before .before .before .before .enable-refusal .ensures) (c .before .before .before .before .before .before .if1 .left) in
     let p = promised (c .before .before .before .before .before .before .before .before .before .before .before .args .sheet .now) (c .before .before .before .before .before .before .before .before .before .before .before .pre .accepted) .transitions .1 in
     record { fits = omega arith }
 
--- src/lib.rt:153:22
 add-t15 : tie.Need-add-t15
 add-t15 c = search needs
 
--- src/lib.rt:151:9
 mul-t13 : tie.Need-mul-t13
 mul-t13 c = search needs
 
--- src/lib.rt:151:9
 element-set-from-next : tie.Need-element-set-from-next
 element-set-from-next c = search needs
 
--- src/lib.rt:158:22
 add-t15-2 : tie.Need-add-t15-2
 add-t15-2 c = search needs
 
--- src/lib.rt:129:5
 returns-4 : tie.Need-returns-4
 returns-4 c = done (c .before .before .before .before .before .before .before .before .before .before .before .args .sheet .now) (c .before .before .before .before .before .before .before .before .before .before .before .args .self) (c .before .before .before .before .before .before .before .before .before .before .before .args .t) (c .before .before .before .before .before .before .before .before .before .before .before .pre) _ (c .before .before .before .before .before .before .before .enable-refusal .ensures) (c .before .before .before .before .before .before .if1 .left) (c .before .before .before .before .before .if2 .left) _ (c .before .before .before .before .last-key .ensures) (c .before .before .before .if3 .left)
     _ _ (c .before .fired .ensures) (c .before .before .moved-by .ensures)

@@ -1,3 +1,5 @@
+-- `session::Record::perform` meets its contract.
+-- Assumes nothing but the laws of proofs/.
 use mathlib.Core.Path.{ap, _∙_}
 use Prim.Native.Nat.{ℕ, _-_}
 use mathlib.Core.List.{List}
@@ -12,71 +14,54 @@ use borrow.Author.Needs.{needs}
 use Rattle.session.proofs.Record.perform.Statement.{statement}
 use Rattle.session.proofs.Record.perform.Tie as tie
 
--- src/lib.rt:199:13
 refused-requires : tie.Need-refused-requires
 refused-requires c κs = search needs
 
--- src/lib.rt:199:13
 returns : tie.Need-returns
 returns c = c .refused .ensures ∙ cut (c .before .before .before .before .args .sheet .now) (c .before .before .before .before .args .self) (c .before .before .before .before .args .bytes .now) (lt-ltb _ _ (c .before .if1 .taken))
 
--- src/lib.rt:201:13
 decode-requires : tie.Need-decode-requires
 decode-requires c κs = search needs
 
--- src/lib.rt:202:28
 enum-known-read : tie.Need-enum-known-read
 enum-known-read c = search needs
 
--- src/lib.rt:203:13
 enum-told : tie.Need-enum-told
 enum-told c = search needs
 
--- src/lib.rt:203:13
 refused-requires-2 : tie.Need-refused-requires-2
 refused-requires-2 c κs = search needs
 
--- src/lib.rt:203:13
 returns-2 : tie.Need-returns-2
 returns-2 c = c .refused2 .ensures ∙ unread (c .before .before .before .before .before .before .before .args .sheet .now) (c .before .before .before .before .before .before .before .args .self) (c .before .before .before .before .before .before .before .args .bytes .now) (le-ltb _ _ (c .before .before .before .before .if1 .left)) _ (c .before .enum-told .given .1) (c .before .before .before .decode .ensures)
 
--- src/lib.rt:206:27
 enum-known-c : tie.Need-enum-known-c
 enum-known-c c = search needs
 
--- src/lib.rt:206:33
 fire-requires : tie.Need-fire-requires
 fire-requires c κs = c .before .before .before .before .before .before .before .before .before .before .pre
 
--- src/lib.rt:207:27
 enum-known-c-2 : tie.Need-enum-known-c-2
 enum-known-c-2 c = search needs
 
--- src/lib.rt:207:33
 undo-requires : tie.Need-undo-requires
 undo-requires c κs = c .before .before .before .before .before .before .before .before .before .before .pre
 
--- src/lib.rt:209:21
 enum-told-2 : tie.Need-enum-told-2
 enum-told-2 c = search needs
 
--- src/lib.rt:211:21
 last-key-requires : tie.Need-last-key-requires
 last-key-requires c κs = live-few (c .before .before .before .before .before .before .before .before .before .before .args .sheet .now) (c .before .before .before .before .before .before .before .before .before .before .args .self) (c .before .before .before .before .before .before .before .before .before .before .pre)
 
--- src/lib.rt:212:17
 undo-requires-2 : tie.Need-undo-requires-2
 undo-requires-2 c κs = c .before .before .before .before .before .before .before .before .before .before .before .pre
 
--- src/lib.rt:194:5
 returns-3 : tie.Need-returns-3
 returns-3 c = c .fire .ensures ∙ given (c .before .before .before .before .before .before .before .before .before .before .before .args .sheet .now) (c .before .before .before .before .before .before .before .before .before .before .before .args .self) (c .before .before .before .before .before .before .before .before .before .before .before .args .bytes .now) (le-ltb _ _ (c .before .before .before .before .before .before .before .before .if1 .left)) _ _ _ (c .before .before .before .before .before .read .given .1) (c .before .before .before .before .before .before .before .decode .ensures) (c .before .before .c .given .1)
 
--- src/lib.rt:194:5
 returns-4 : tie.Need-returns-4
 returns-4 c = c .undo .ensures ∙ given (c .before .before .before .before .before .before .before .before .before .before .before .args .sheet .now) (c .before .before .before .before .before .before .before .before .before .before .before .args .self) (c .before .before .before .before .before .before .before .before .before .before .before .args .bytes .now) (le-ltb _ _ (c .before .before .before .before .before .before .before .before .if1 .left)) _ _ _ (c .before .before .before .before .before .read .given .1) (c .before .before .before .before .before .before .before .decode .ensures) (c .before .before .c2 .given .1)
 
--- src/lib.rt:194:5
 returns-5 : tie.Need-returns-5
 returns-5 c =
     let s : List ℕ = c .before .before .before .before .before .before .before .before .before .before .before .before .args .sheet .now in
