@@ -27,7 +27,7 @@ pub fn value_of(code: u8, serial: u16) -> u16
     code as u16
 }
 
-// The word for the code, with a space on either side. `put_line` has checked the room.
+// The word for the code, with a space on either side. `put_line` sees to the room.
 pub fn put_answer(buf: &mut [u8], at: usize, code: u8) -> usize
     requires { ⌜ at + 9 ≤ length (now buf) ⌝ }
     ensures { λ r. ⌜ (r ≡ at + length (wordOf code)) × (now (buf .exit) ≡ sets (now (buf .entry)) at (wordOf code)) ⌝ }
