@@ -62,7 +62,7 @@ pub fn rank<'a>(lo: &'a [Base], hi: &'a [Base], count: usize, b: Bond) -> usize
     n
 }
 
-// A label after `from` gave way to `to`.
+// A label, once `from` is renamed to `to`.
 fn new_label(x: Base, from: Base, to: Base) -> Base
     ensures { λ r. ⌜ r ≡ renamed from to x ⌝ }
 {
@@ -81,7 +81,8 @@ fn rename(labels: [Base; MAX_BASES], from: Base, to: Base) -> [Base; MAX_BASES]
     l
 }
 
-// The labels after the bond of p and q. Equal labels cost nothing.
+// The labels after the bond of p and q. Equal labels stay: each renaming joins two groups, so all the
+// bonds together take at most bases - 1 of them.
 fn join(labels: [Base; MAX_BASES], p: Base, q: Base) -> [Base; MAX_BASES]
     requires { ⌜ (p < maxBases) × (q < maxBases) ⌝ }
     ensures { λ r. ⌜ r ≡ joinedLabels labels p q ⌝ }

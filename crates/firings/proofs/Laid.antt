@@ -36,7 +36,7 @@ as-lines-more n i fs h e j k = test (eqb j i) (λ q. let p = eqb-true j i q in r
 pub unused-more : (k i : ℕ) (fs : List Firing) → Unused k i fs → getD fs i past ≡ noFiring → Unused k (i + 1) fs
 unused-more k i fs h e j l m = test (eqb j i) (λ q. let p = eqb-true j i q in rw p e) (λ q. let p = eqb-false j i q in h j l (omega arith))
 
-getD-front : {X Y : Type 0} (f : X → Y) (xs : List X) (r : List Y) (d : X) (e : Y) (i : ℕ) → i < length xs → getD (map f xs ++ r) i e ≡ f (getD xs i d)
+pub getD-front : {X Y : Type 0} (f : X → Y) (xs : List X) (r : List Y) (d : X) (e : Y) (i : ℕ) → i < length xs → getD (map f xs ++ r) i e ≡ f (getD xs i d)
 getD-front f [] r d e i h = absurd (not-suc-le-zero h)
 getD-front f (x ∷ xs) r d e zero h = refl
 getD-front f (x ∷ xs) r d e (suc i) h = getD-front f xs r d e i (le-of-suc-le-suc h)

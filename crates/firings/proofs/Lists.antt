@@ -56,10 +56,6 @@ module _ {X : Type 0} where
   mem-of-drop (suc n) (y ∷ l) x h = inr (mem-of-drop n l x h)
 
 module _ {X Y : Type 0} where
-  pub map-table : (f : X → Y) (n : ℕ) (g : ℕ → X) → map f (table n g) ≡ table n (λ i. f (g i))
-  map-table f zero g = refl
-  map-table f (suc n) g = let rest = map-table f n (λ k. g (suc k)) in λ i. f (g zero) ∷ rest i
-
   pub all-map : (f : Y → Bool) (g : X → Y) (xs : List X) → ((x : X) → Mem x xs → f (g x) ≡ true) → all f (map g xs) ≡ true
   all-map f g [] h = refl
   all-map f g (x ∷ xs) h = and-i (f (g x)) (all f (map g xs)) (h x (inl refl)) (all-map f g xs (λ y m. h y (inr m)))

@@ -8,20 +8,17 @@ use lib.Dec.{eqb, ltb, leb}
 use lib.ListN.{getD, take, drop}
 use Rattle.net.specs.Limits.{maxKey}
 use Rattle.net.specs.Tests.{all, table}
+use Rattle.marking.specs.Form.{clearFrom}
 use Rattle.firings.specs.Lines.{past, lineOf, noFiring, firingOf}
 use Rattle.firings.specs.declared.Firing.{Firing}
 
--- no flag is set
-abbrev pub unset : List Bool → Bool
-unset m = all not m
-
 -- an unused entry
 abbrev pub isNoFiring : Firing → Bool
-isNoFiring f = eqb (f .transition) 0 && (eqb (f .key .0) 0 && unset (f .moved))
+isNoFiring f = eqb (f .transition) 0 && (eqb (f .key .0) 0 && clearFrom 0 (f .moved))
 
 -- no flag of a live firing is set from the number of bases on
 abbrev pub usedInForm : ℕ → ℕ → List Firing → Bool
-usedInForm n k fs = all (λ (f : Firing). unset (drop n (f .moved))) (take k fs)
+usedInForm n k fs = all (λ (f : Firing). clearFrom n (f .moved)) (take k fs)
 
 -- every entry after the live firings is unused
 abbrev pub unusedInForm : ℕ → List Firing → Bool

@@ -72,7 +72,8 @@ pub fn is_no_firing(f: Firing) -> bool
     (f.transition == 0) & ((f.key.0 == 0) & unset)
 }
 
-// No flag of a live firing is set from n on; such a firing is its line as a firing. The callers have seen that there are no more than the limit, here and below.
+// No flag of a live firing is set from n on; such a firing is its line as a firing. The callers have seen that there are
+// no more than the limit, here and below.
 pub fn used_in_form(firings: [Firing; MAX_LIVE], live: usize, n: usize) -> bool
     requires { ⌜ live ≤ maxLive ⌝ }
     ensures { λ r. ⌜ r ≡ usedInForm n live firings ⌝ }

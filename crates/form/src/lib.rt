@@ -1,5 +1,5 @@
-// The form of a marking (document 01, the record: unused entries hold 0) as a test, and whether two markings or
-// two sets of bases are the same. Every entry is looked at: no early exit within an array.
+// The form of a marking (document 01, the record: unused entries hold 0) as a test, and whether two markings
+// are the same. Every entry is looked at: no early exit within an array.
 ghost use mathlib.Core.Path.{_≡_};
 ghost use mathlib.Core.Bool.{true};
 ghost use Prim.Native.Nat.{_≤_};
@@ -54,7 +54,7 @@ fn same_bytes<'a>(a: &'a [u8], b: &'a [u8], n: usize) -> bool
     same
 }
 
-// Whether two markings of n bases are the same. Callers know that the bonds fit and n is at most 64.
+// Whether two markings of n bases are the same. Callers know that the bonds fit and n is within its limit.
 pub fn same_marking(n: usize, a: Marking, b: Marking) -> bool
     requires { ⌜ (n ≤ maxBases) × (a .count ≤ maxBonds) × (b .count ≤ maxBonds) ⌝ }
     ensures { λ r. ⌜ r ≡ sameMarking (markingOf n a) (markingOf n b) ⌝ }

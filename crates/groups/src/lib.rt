@@ -30,7 +30,7 @@ fn side(back: bool, e: Entry) -> Place
     if back { e.from } else { e.to }
 }
 
-// The groups that the entries hit. From the last entry to the first, so that the first of a group has the last word.
+// The groups that the entries hit. From the last entry to the first, so that the first of a group is stored last.
 // The callers' entries are of bases of the net, and labels are bases.
 pub fn grouped(step: &[u8], labels: [Base; MAX_BASES], back: bool) -> Groups
     requires { ⌜ ((i : ℕ) → i < entryCount (now step) → (nthEntry (now step) i .base < maxBases) × (labelIn labels (nthEntry (now step) i .base) < maxBases)) ⌝ }

@@ -76,8 +76,8 @@ fn removed(a: &[Base], n: usize, k: usize) -> [Base; MAX_BONDS]
 }
 
 // b goes in at its place, unless it is there.
-// Callers hold a marking in its form with bonds in strict order; bonds of bases below 64 are at most 2016, so there is
-// room for b.
+// Callers hold a marking in its form with bonds in strict order; bonds of bases below the limit are at
+// most as many as the arrays hold, so there is room for b.
 pub fn add_bond(m: Marking, b: Bond) -> Marking
     requires { ⌜ InOrder m × (length (put sameBond lessBond b (bondsOf m)) ≤ maxBonds) ⌝ }
     ensures { λ r. ⌜ r ≡ withBonds m (put sameBond lessBond b (bondsOf m)) ⌝ }

@@ -13,7 +13,8 @@ use Rattle.net.specs.Tests.{all, table}
 use Rattle.net.specs.Journal.{LiveLine, Journal}
 use Rattle.marking.proofs.Forms.{marking-laid, laid-in-form}
 use Rattle.firings.specs.Lines.{past, lineOf, noFiring, firingOf}
-use Rattle.firings.specs.Form.{unset, isNoFiring}
+use Rattle.firings.specs.Form.{isNoFiring}
+use Rattle.marking.specs.Form.{clearFrom}
 use Rattle.sound.specs.Soundness.{journalIn, formed}
 use Rattle.session.specs.Records.{recordOf}
 use Rattle.firings.specs.declared.Firing.{Firing}
@@ -39,7 +40,7 @@ module _ (n : ℕ) (j : Journal) (F : Fits n j) where
     lines = table-back firingOf (lineOf n) past (j .lines) (replicate (maxLive - length (j .lines)) noFiring) line-back i;
   }
 
-  flags-unset : (l : LiveLine) → Mem l (j .lines) → unset (drop n (firingOf l .moved)) ≡ true
+  flags-unset : (l : LiveLine) → Mem l (j .lines) → clearFrom n (firingOf l .moved) ≡ true
   flags-unset l m = rw (drop-at (l .moved) (replicate (maxBases - length (l .moved)) false) n (F .flags l m)) (all-replicate not (maxBases - length (l .moved)) false refl)
 
   pub record-form : formed n (recordOf j .marking) (recordOf j .live) (recordOf j .firings) ≡ true
@@ -51,5 +52,5 @@ module _ (n : ℕ) (j : Journal) (F : Fits n j) where
         take-at (map firingOf (j .lines)) (replicate (maxLive - length (j .lines)) noFiring) (length (j .lines)) (length-map (j .lines) firingOf),
         drop-at (map firingOf (j .lines)) (replicate (maxLive - length (j .lines)) noFiring) (length (j .lines)) (length-map (j .lines) firingOf),
         all-replicate isNoFiring (maxLive - length (j .lines)) noFiring refl,
-        all-map (λ (f : Firing). unset (drop n (f .moved))) firingOf (j .lines) flags-unset,
+        all-map (λ (f : Firing). clearFrom n (f .moved)) firingOf (j .lines) flags-unset,
       )

@@ -30,6 +30,7 @@ use Rattle.firings.specs.Lines.{past, lineOf, firingOf, firingsOf, closedUp}
 use Rattle.firings.specs.Form.{liveKeys}
 use Rattle.firings.specs.Search.{placeOf, builtOnIn}
 use Rattle.firings.specs.declared.Firing.{Firing}
+use Rattle.firings.proofs.Laid.{getD-front}
 use Rattle.firings.proofs.Changes.{without-line}
 use Rattle.engine.proofs.Kept.{undo-flags}
 use Rattle.steps.proofs.Arcs.{count-of}
@@ -40,12 +41,6 @@ use Rattle.session.specs.declared.Answer.the-variants.{Undone}
 use Rattle.session.proofs.Sounds.{held, live-is, firings-are}
 use Rattle.session.proofs.Places.{keysOf, place-most, place-dead, Found, place-found, built-lines}
 use Rattle.session.proofs.Fits.{run-flags}
-
--- an element of a list whose images lead another list
-getD-lead : {X Y : Type 0} (f : X → Y) (xs : List X) (r : List Y) (d : X) (e : Y) (i : ℕ) → i < length xs → getD (map f xs ++ r) i e ≡ f (getD xs i d)
-getD-lead f [] r d e i h = absurd (not-suc-le-zero h)
-getD-lead f (x ∷ xs) r d e zero h = refl
-getD-lead f (x ∷ xs) r d e (suc i) h = getD-lead f xs r d e i (le-of-suc-le-suc h)
 
 -- each line of a run is of a transition on the sheet
 run-listed : (net : Net) (ls : List LiveLine) (a z : Net.Marking) → Run (Fires net) a ls z → (l : LiveLine) → Mem l ls → l .transition .0 < length (net .transitions)
@@ -87,7 +82,7 @@ module _ (s : List ℕ) (r : Record) (k : Key) (S : Sound s r) where
 
       pub firing-is : getD (r .firings) i past ≡ firingOf l
       firing-is = ap (λ (fs : List Firing). getD fs i past) (firings-are s r S)
-          ∙ getD-lead firingOf ls _ noLine past i (let a = live-is s r S in omega arith) ∙ ap firingOf (found .line noLine)
+          ∙ getD-front firingOf ls _ noLine past i (let a = live-is s r S in omega arith) ∙ ap firingOf (found .line noLine)
 
       pub listed : getD (r .firings) i past .transition < transitionsOf s
       listed = rw (firing-is, ← count-of s) (run-listed (netOf s) ls (netOf s .start) (j .marking) (held s r S .run) l mem-l)

@@ -58,7 +58,7 @@ pub struct Outcome {
     pub session: Record,
 }
 
-// The answer to starting a session; Refused has the sheet's number.
+// The answer to starting a session; NotStarted has the sheet's number.
 pub enum StartAnswer {
     Started,
     NotStarted(u8),

@@ -8,7 +8,8 @@ use native.Mathlib.Nat.{not-suc-le-zero}
 use Rattle.net.specs.Limits.{maxBases, maxLive}
 use Rattle.net.proofs.Tests.{and-l, and-r}
 use Rattle.firings.specs.Lines.{past}
-use Rattle.firings.specs.Form.{unset, usedInForm, AsLines}
+use Rattle.marking.specs.Form.{clearFrom}
+use Rattle.firings.specs.Form.{usedInForm, AsLines}
 use Rattle.firings.specs.declared.Firing.{Firing}
 use Rattle.firings.proofs.Rest.{taken-turn}
 use Rattle.firings.proofs.Laid.{as-line, as-lines-more}
@@ -53,7 +54,7 @@ loop-again c =
       search needs,
       search needs,
       search needs,
-      ap (λ (b : Bool). at .loop .ok && b) (c .clear-from .ensures .0) ∙ taken-turn (λ (f : Firing). unset (drop (at .before .args .n) (f .moved))) (at .before .args .t1) past (at .loop .i) (at .loop .ok) (omega arith) (at .loop .inv .3),
+      ap (λ (b : Bool). at .loop .ok && b) (c .clear-from .ensures .0) ∙ taken-turn (λ (f : Firing). clearFrom (at .before .args .n) (f .moved)) (at .before .args .t1) past (at .loop .i) (at .loop .ok) (omega arith) (at .loop .inv .3),
       λ h e. as-lines-more (at .before .args .n) (at .loop .i) (at .before .args .t1) (at .loop .inv .4 (and-l (at .loop .ok) _ h) e)
           (as-line (at .before .args .n) (getD (at .before .args .t1) (at .loop .i) past) (c .clear-from .ensures .1 (and-r (at .loop .ok) _ h) e)),
     )
