@@ -1,6 +1,6 @@
 -- Laws of the line's pieces: how long they are, and that they make the line.
 -- Assumes nothing.
-use mathlib.Core.Path.{_≡_, refl, ap, _∙_}
+use mathlib.Core.Path.{_≡_, refl}
 use Prim.Native.Nat.{ℕ, _+_, _≤_, _<_}
 use native.Mathlib.Omega.{arith}
 use mathlib.Core.Bool.{Bool, true, false}
@@ -9,63 +9,62 @@ use lib.Dec.{eqb}
 use lib.ListN.{length}
 use lib.Seq.{sets}
 use borrow.Author.Tests.{lt-ltb, le-ltb, eq-eqb, ne-eqb, eqb-true, eqb-false}
+use Rattle.net.specs.declared.Key.{Key}
 use Rattle.text.specs.Decimal.{digits, decimal}
 use Rattle.text.proofs.Writes.{written-none, written-more}
-use Rattle.report.specs.Lines.{fired, undone, refused, wordOf, valueOf, answerLine}
+use Rattle.session.specs.declared.Answer.{Answer}
+use Rattle.report.specs.Lines.{fired, undone, refused, wordOf, answerLine, lineOf, valueLimit}
 use Rattle.report.proofs.Places.{digits-few, decimal-five}
 
--- ---- One code at a time
+-- ---- One word at a time
 
-pub word-fired : (c : ℕ) → c ≡ 0 → wordOf c ≡ fired
+pub word-fired : (w : ℕ) → w ≡ 0 → wordOf w ≡ fired
 unfolding wordOf
-word-fired c e = rw (eq-eqb c 0 e)
+word-fired w e = rw (eq-eqb w 0 e)
 
-pub word-undone : (c : ℕ) → (c ≡ 0 → ⊥) → c ≡ 1 → wordOf c ≡ undone
+pub word-undone : (w : ℕ) → (w ≡ 0 → ⊥) → w ≡ 1 → wordOf w ≡ undone
 unfolding wordOf
-word-undone c h e = rw (ne-eqb c 0 h, eq-eqb c 1 e)
+word-undone w h e = rw (ne-eqb w 0 h, eq-eqb w 1 e)
 
-pub word-refused : (c : ℕ) → (c ≡ 0 → ⊥) → (c ≡ 1 → ⊥) → wordOf c ≡ refused
+pub word-refused : (w : ℕ) → (w ≡ 0 → ⊥) → (w ≡ 1 → ⊥) → wordOf w ≡ refused
 unfolding wordOf
-word-refused c h k = rw (ne-eqb c 0 h, ne-eqb c 1 k)
-
-pub value-serial : (c s : ℕ) → c < 2 → valueOf c s ≡ s
-unfolding valueOf
-value-serial c s h = rw (lt-ltb c 2 h)
-
-pub value-code : (c s : ℕ) → 2 ≤ c → valueOf c s ≡ c
-unfolding valueOf
-value-code c s h = rw (le-ltb c 2 h)
+word-refused w h k = rw (ne-eqb w 0 h, ne-eqb w 1 k)
 
 -- ---- Lengths
 
--- the word and the value of a code of 8 bits and a serial of 16 need no more than thirteen bytes
-abbrev pub Room : ℕ → ℕ → Type 0
-Room c v = (length (wordOf c) ≤ 9) × (v < 100000) × (length (wordOf c) + length (digits 5 v) ≤ 13)
+-- a word and a value below its limit need no more than thirteen bytes
+abbrev Room : ℕ → ℕ → Type 0
+Room w v = (length (wordOf w) ≤ 9) × (v < 100000) × (length (wordOf w) + length (digits 5 v) ≤ 13)
 
-module _ (c s v : ℕ) (hc : c < 256) (hs : s < 65536) (hv : v ≡ valueOf c s) where
-  room-refused : (c ≡ 0 → ⊥) → (c ≡ 1 → ⊥) → Room c v
-  room-refused h k =
-      let l : 2 ≤ c = omega (arith, h, k) in
-      let e : v ≡ c = hv ∙ value-code c s l in
-      rw (word-refused c h k) (omega arith, omega (arith, e), omega (arith, digits-few 2 5 v (omega (arith, e))))
+module _ (w v : ℕ) (h : v < valueLimit w) where
+  room-refused : (w ≡ 0 → ⊥) → (w ≡ 1 → ⊥) → Room w v
+  room-refused p q =
+      let e : valueLimit w ≡ 1000 = rw (le-ltb w 2 (omega (arith, p, q))) in
+      let l : v < 1000 = omega (arith, h, e) in
+      rw (word-refused w p q) (omega arith, omega (arith, l), omega (arith, digits-few 2 5 v l))
 
-  room-undone : (c ≡ 0 → ⊥) → c ≡ 1 → Room c v
-  room-undone h k =
-      let e : v ≡ s = hv ∙ value-serial c s (omega arith) in
-      rw (word-undone c h k) (omega arith, omega (arith, e), omega (arith, digits-few 4 5 v (omega (arith, e))))
+  room-serial : w < 2 → v < 65536
+  room-serial p =
+      let e : valueLimit w ≡ 65536 = rw (lt-ltb w 2 p) in
+      omega (arith, h, e)
 
-  room-fired : c ≡ 0 → Room c v
-  room-fired h =
-      let e : v ≡ s = hv ∙ value-serial c s (omega arith) in
-      rw (word-fired c h) (omega arith, omega (arith, e), omega (arith, digits-few 4 5 v (omega (arith, e))))
+  room-undone : (w ≡ 0 → ⊥) → w ≡ 1 → Room w v
+  room-undone p q =
+      let l : v < 65536 = room-serial (omega arith) in
+      rw (word-undone w p q) (omega arith, omega (arith, l), omega (arith, digits-few 4 5 v (omega (arith, l))))
 
-  room-by : (a b : Bool) → eqb c 0 ≡ a → eqb c 1 ≡ b → Room c v
-  room-by true b p q = room-fired (eqb-true c 0 p)
-  room-by false true p q = room-undone (eqb-false c 0 p) (eqb-true c 1 q)
-  room-by false false p q = room-refused (eqb-false c 0 p) (eqb-false c 1 q)
+  room-fired : w ≡ 0 → Room w v
+  room-fired p =
+      let l : v < 65536 = room-serial (omega arith) in
+      rw (word-fired w p) (omega arith, omega (arith, l), omega (arith, digits-few 4 5 v (omega (arith, l))))
 
-  pub room : Room c v
-  room = room-by (eqb c 0) (eqb c 1) refl refl
+  room-by : (a b : Bool) → eqb w 0 ≡ a → eqb w 1 ≡ b → Room w v
+  room-by true b p q = room-fired (eqb-true w 0 p)
+  room-by false true p q = room-undone (eqb-false w 0 p) (eqb-true w 1 q)
+  room-by false false p q = room-refused (eqb-false w 0 p) (eqb-false w 1 q)
+
+  pub room : Room w v
+  room = room-by (eqb w 0) (eqb w 1) refl refl
 
 -- ---- The whole
 
@@ -74,9 +73,15 @@ abbrev Wrote : List ℕ → ℕ → List ℕ → ℕ → List ℕ → Type 0
 Wrote ws k b k′ b′ = (k′ ≡ k + length ws) × (b′ ≡ sets b k ws)
 
 -- the four writers, one after the other, leave the line
-pub pieces : (b : List ℕ) {b₁ b₂ b₃ b₄ : List ℕ} {k₁ k₂ k₃ k₄ : ℕ} (n c s v : ℕ) → v < 100000 → v ≡ valueOf c s → Wrote (digits 10 n) 0 b k₁ b₁ → Wrote (wordOf c) k₁ b₁ k₂ b₂ → Wrote (digits 5 v) k₂ b₂ k₃ b₃ → Wrote (10 ∷ []) k₃ b₃ k₄ b₄ → (k₄ ≡ length (answerLine n c s)) × (b₄ ≡ sets b 0 (answerLine n c s))
+pub pieces : (b : List ℕ) {b₁ b₂ b₃ b₄ : List ℕ} {k₁ k₂ k₃ k₄ : ℕ} (n w v : ℕ) → v < 100000 → Wrote (digits 10 n) 0 b k₁ b₁ → Wrote (wordOf w) k₁ b₁ k₂ b₂ → Wrote (digits 5 v) k₂ b₂ k₃ b₃ → Wrote (10 ∷ []) k₃ b₃ k₄ b₄ → (k₄ ≡ length (answerLine n w v)) × (b₄ ≡ sets b 0 (answerLine n w v))
 unfolding answerLine decimal
-pieces b n c s v h e w₁ w₂ w₃ w₄ =
-    let all = written-more (10 ∷ []) (written-more (digits 5 v) (written-more (wordOf c) (written-more (digits 10 n) (written-none b) w₁) w₂) w₃) w₄ in
-    let t : digits 5 v ≡ digits 10 (valueOf c s) = decimal-five v h ∙ ap (λ (x : ℕ). digits 10 x) e in
+pieces b n w v h w₁ w₂ w₃ w₄ =
+    let all = written-more (10 ∷ []) (written-more (digits 5 v) (written-more (wordOf w) (written-more (digits 10 n) (written-none b) w₁) w₂) w₃) w₄ in
+    let t : digits 5 v ≡ digits 10 v = decimal-five v h in
     rw (← t) (all .count, all .list)
+
+-- ---- The answer
+
+-- what was written for x was written for an answer that is x
+pub told : (b : List ℕ) {b′ : List ℕ} {r : ℕ} (n : ℕ) (k : Key) {a : Answer} (x : Answer) → a ≡ x → (r ≡ length (lineOf n x k)) × (b′ ≡ sets b 0 (lineOf n x k)) → (r ≡ length (lineOf n a k)) × (b′ ≡ sets b 0 (lineOf n a k))
+told b n k x e w = rw e w

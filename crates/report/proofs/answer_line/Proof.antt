@@ -20,8 +20,8 @@ returns c =
     let short : length (c .before .before .args .buf .now) < minLine = omega arith in
     rw (lt-ltb _ _ short) (refl, refl)
 
-put-line-requires : tie.Need-put-line-requires
-put-line-requires c κs = search needs
+put-answer-line-requires : tie.Need-put-answer-line-requires
+put-answer-line-requires c κs = search needs
 
 same-length : tie.Need-same-length
 same-length c = search needs
@@ -29,9 +29,9 @@ same-length c = search needs
 returns-2 : tie.Need-returns-2
 unfolding writtenOf bufferOf
 returns-2 c =
-    let done = c .before .before .put-line .ensures in
+    let done = c .before .before .put-answer-line .ensures in
     let long : minLine ≤ length (c .before .before .before .before .before .before .args .buf .now) = omega arith in
     rw (le-ltb _ _ long) (ap accepted (done .0), done .1)
 
 pub answer-line-spec : {M : Type 1} → statement M
-answer-line-spec = tie.close (tie.spec returns put-line-requires same-length returns-2)
+answer-line-spec = tie.close (tie.spec returns put-answer-line-requires same-length returns-2)
