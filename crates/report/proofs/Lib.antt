@@ -1,0 +1,4 @@
+-- Laws of the answer line.
+pub mod Places
+pub mod Pieces
+pub mod Whole

@@ -1,0 +1,87 @@
+-- Laws of the line's pieces: how long they are, and that they make the line.
+-- Assumes nothing.
+use mathlib.Core.Path.{_≡_, refl}
+use Prim.Native.Nat.{ℕ, _+_, _≤_, _<_}
+use native.Mathlib.Omega.{arith}
+use mathlib.Core.Bool.{Bool, true, false}
+use mathlib.Core.List.{List, [], _∷_}
+use lib.Dec.{eqb}
+use lib.ListN.{length}
+use lib.Seq.{sets}
+use borrow.Author.Tests.{lt-ltb, le-ltb, eq-eqb, ne-eqb, eqb-true, eqb-false}
+use Rattle.net.specs.declared.Key.{Key}
+use Rattle.text.specs.Decimal.{digits, decimal}
+use Rattle.text.proofs.Writes.{written-none, written-more}
+use Rattle.session.specs.declared.Answer.{Answer}
+use Rattle.report.specs.Lines.{fired, undone, refused, wordOf, answerLine, lineOf, valueLimit}
+use Rattle.report.proofs.Places.{digits-few, decimal-five}
+
+-- ---- One word at a time
+
+pub word-fired : (w : ℕ) → w ≡ 0 → wordOf w ≡ fired
+unfolding wordOf
+word-fired w e = rw (eq-eqb w 0 e)
+
+pub word-undone : (w : ℕ) → (w ≡ 0 → ⊥) → w ≡ 1 → wordOf w ≡ undone
+unfolding wordOf
+word-undone w h e = rw (ne-eqb w 0 h, eq-eqb w 1 e)
+
+pub word-refused : (w : ℕ) → (w ≡ 0 → ⊥) → (w ≡ 1 → ⊥) → wordOf w ≡ refused
+unfolding wordOf
+word-refused w h k = rw (ne-eqb w 0 h, ne-eqb w 1 k)
+
+-- ---- Lengths
+
+-- a word and a value below its limit need no more than thirteen bytes
+abbrev Room : ℕ → ℕ → Type 0
+Room w v = (length (wordOf w) ≤ 9) × (v < 100000) × (length (wordOf w) + length (digits 5 v) ≤ 13)
+
+module _ (w v : ℕ) (h : v < valueLimit w) where
+  room-refused : (w ≡ 0 → ⊥) → (w ≡ 1 → ⊥) → Room w v
+  room-refused p q =
+      let e : valueLimit w ≡ 1000 = rw (le-ltb w 2 (omega (arith, p, q))) in
+      let l : v < 1000 = omega (arith, h, e) in
+      rw (word-refused w p q) (omega arith, omega (arith, l), omega (arith, digits-few 2 5 v l))
+
+  room-serial : w < 2 → v < 65536
+  room-serial p =
+      let e : valueLimit w ≡ 65536 = rw (lt-ltb w 2 p) in
+      omega (arith, h, e)
+
+  room-undone : (w ≡ 0 → ⊥) → w ≡ 1 → Room w v
+  room-undone p q =
+      let l : v < 65536 = room-serial (omega arith) in
+      rw (word-undone w p q) (omega arith, omega (arith, l), omega (arith, digits-few 4 5 v (omega (arith, l))))
+
+  room-fired : w ≡ 0 → Room w v
+  room-fired p =
+      let l : v < 65536 = room-serial (omega arith) in
+      rw (word-fired w p) (omega arith, omega (arith, l), omega (arith, digits-few 4 5 v (omega (arith, l))))
+
+  room-by : (a b : Bool) → eqb w 0 ≡ a → eqb w 1 ≡ b → Room w v
+  room-by true b p q = room-fired (eqb-true w 0 p)
+  room-by false true p q = room-undone (eqb-false w 0 p) (eqb-true w 1 q)
+  room-by false false p q = room-refused (eqb-false w 0 p) (eqb-false w 1 q)
+
+  pub room : Room w v
+  room = room-by (eqb w 0) (eqb w 1) refl refl
+
+-- ---- The whole
+
+-- a writer of the bytes ws was called on the buffer b at k, answered k′ and left b′
+abbrev Wrote : List ℕ → ℕ → List ℕ → ℕ → List ℕ → Type 0
+Wrote ws k b k′ b′ = (k′ ≡ k + length ws) × (b′ ≡ sets b k ws)
+
+-- the four writers, one after the other, leave the line
+pub pieces : (b : List ℕ) {b₁ b₂ b₃ b₄ : List ℕ} {k₁ k₂ k₃ k₄ : ℕ} (n w v : ℕ) → v < 100000 → Wrote (digits 10 n) 0 b k₁ b₁ → Wrote (wordOf w) k₁ b₁ k₂ b₂ → Wrote (digits 5 v) k₂ b₂ k₃ b₃ → Wrote (10 ∷ []) k₃ b₃ k₄ b₄ → (k₄ ≡ length (answerLine n w v)) × (b₄ ≡ sets b 0 (answerLine n w v))
+unfolding answerLine decimal
+pieces b n w v h w₁ w₂ w₃ w₄ =
+    let all = written-more (10 ∷ []) (written-more (digits 5 v) (written-more (wordOf w) (written-more (digits 10 n) (written-none b) w₁) w₂) w₃) w₄ in
+    let t : digits 5 v ≡ digits 10 v = decimal-five v h in
+    rw (← t) (all .count, all .list)
+
+-- ---- The answer
+
+-- what was written for x was written for an answer that is x
+pub told : (b : List ℕ) {b′ : List ℕ} {r : ℕ} (n : ℕ) (k : Key) {a : Answer} (x : Answer) → a ≡ x → (r ≡ length (lineOf n x k)) × (b′ ≡ sets b 0 (lineOf n x k)) → (r ≡ length (lineOf n a k)) × (b′ ≡ sets b 0 (lineOf n a k))
+told b n k x e w = rw e w

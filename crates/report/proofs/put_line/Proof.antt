@@ -1,0 +1,47 @@
+-- `report::put_line` meets its contract.
+-- Assumes nothing but the laws of proofs/.
+use Rattle.text.proofs.Digits.{digits-length}
+use Rattle.report.proofs.Pieces.{room, pieces}
+use native.Mathlib.Omega.{arith}
+use borrow.Author.Needs.{needs}
+use Rattle.report.proofs.put_line.Statement.{statement}
+use Rattle.report.proofs.put_line.Tie as tie
+
+put-digits-requires : tie.Need-put-digits-requires
+put-digits-requires c κs = search needs
+
+put-answer-requires : tie.Need-put-answer-requires
+put-answer-requires c κs = omega (arith, digits-length 10 (c .before .before .before .before .before .before .args .number))
+
+put-digits-requires-2 : tie.Need-put-digits-requires-2
+put-digits-requires-2 c κs =
+    let from = c .before .before .before .before .before .before .before .before .before .before in
+    omega (arith, digits-length 10 (from .args .number), room (from .args .word) (from .args .value) (from .pre .1) .0)
+
+slice-aggregate-put-word : tie.Need-slice-aggregate-put-word
+slice-aggregate-put-word c = search needs
+
+put-word-requires : tie.Need-put-word-requires
+put-word-requires c κs =
+    let from = c .before .before .before .before .before .before .before .before .before .before .before .before .before .before .before in
+    omega (arith, digits-length 10 (from .args .number), room (from .args .word) (from .args .value) (from .pre .1) .2)
+
+same-length : tie.Need-same-length
+same-length c = search needs
+
+returns : tie.Need-returns
+returns c =
+    let from = c .before .before .before .before .before .before .before .before .before .before .before .before .before .before .before .before .before .before in
+    pieces (from .args .buf .now) (from .args .number) (from .args .word) (from .args .value) (room (from .args .word) (from .args .value) (from .pre .1) .1) (c .before .before .before .before .before .before .before .before .before .before .before .before .before .before .before .put-digits .ensures) (c .before .before .before .before .before .before .before .before .before .before .before .put-answer .ensures) (c .before .before .before .before .before .before .before .put-digits2 .ensures) (c .before .before .put-word .ensures)
+
+pub put-line-spec : {M : Type 1} → statement M
+put-line-spec =
+    tie.close
+    (tie.spec
+    put-digits-requires
+    put-answer-requires
+    put-digits-requires-2
+    slice-aggregate-put-word
+    put-word-requires
+    same-length
+    returns)

@@ -1,0 +1,2 @@
+-- The answer line of the exam program.
+pub mod Lines
