@@ -13,6 +13,9 @@ use Rattle.sheet_bonds.specs.Conditions.{wrongBonds}
 use Rattle.sheet.specs.Samples.{sheetA, sheetB}
 use Rattle.sheet.proofs.Accepted.{promised}
 use Rattle.tally.specs.declared.Tally.{Tally}
+use Rattle.session.specs.Records.{Sound}
+use Rattle.session.specs.Commands.{freshOf}
+use Rattle.session.proofs.Begins.{fresh-sound}
 use Rattle.claims.specs.Demands.{Demand3, Demands}
 use Rattle.claims.proofs.Answers.{demand1, demand2}
 use Rattle.claims.proofs.Sessions.{demand3}
@@ -41,3 +44,10 @@ demand3-A = demands .demand3 sheetA accepted-A
 
 pub demand3-B : (cs : List (List ℕ)) (t : Tally) → Demand3 sheetB cs t
 demand3-B = demands .demand3 sheetB accepted-B
+
+-- and what the inner commands ask is met by their fresh records
+pub sound-A : Sound sheetA (freshOf sheetA)
+sound-A = fresh-sound sheetA accepted-A
+
+pub sound-B : Sound sheetB (freshOf sheetB)
+sound-B = fresh-sound sheetB accepted-B

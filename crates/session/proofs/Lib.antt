@@ -9,3 +9,4 @@ pub mod Fires
 pub mod Undoes
 pub mod Steps
 pub mod Answering
+pub mod Begins
