@@ -8,6 +8,7 @@ use Rattle.net.specs.Limits.{maxBases, maxLive}
 use Rattle.net.specs.Tests.{table}
 use Rattle.net.specs.Journal.{LiveLine, transition, key}
 use Rattle.marking.specs.Shift.{gap}
+use Rattle.marking.specs.Form.{flags}
 use Rattle.firings.specs.declared.Firing.{Firing}
 
 -- what reading past the end of an array of firings gives
@@ -27,7 +28,7 @@ noFiring = record { transition = 0; key = key 0; moved = replicate maxBases fals
 
 -- a line as a firing
 abbrev pub firingOf : LiveLine → Firing
-firingOf l = record { transition = l .transition .0; key = l .key; moved = l .moved ++ replicate (maxBases - length (l .moved)) false }
+firingOf l = record { transition = l .transition .0; key = l .key; moved = flags (l .moved) }
 
 -- lines as an array: the unused entries after them hold 0
 abbrev pub firingsOf : List LiveLine → List Firing
