@@ -1,8 +1,9 @@
 -- Laws of the line's pieces: how long they are, and that they make the line.
 -- Assumes nothing.
-use mathlib.Core.Path.{_≡_, refl}
+use mathlib.Core.Path.{_≡_, refl, _∙_}
 use Prim.Native.Nat.{ℕ, _+_, _≤_, _<_}
 use native.Mathlib.Omega.{arith}
+use native.Mathlib.Nat.{zero-add}
 use mathlib.Core.Bool.{Bool, true, false}
 use mathlib.Core.List.{List, [], _∷_}
 use lib.Dec.{eqb}
@@ -11,7 +12,7 @@ use lib.Seq.{sets}
 use borrow.Author.Tests.{lt-ltb, le-ltb, eq-eqb, ne-eqb, eqb-true, eqb-false}
 use Rattle.net.specs.declared.Key.{Key}
 use Rattle.text.specs.Decimal.{digits, decimal}
-use Rattle.text.proofs.Writes.{written-none, written-more}
+use Rattle.text.proofs.Writes.{written-none, written-more, written-pair}
 use Rattle.session.specs.declared.Answer.{Answer}
 use Rattle.report.specs.Lines.{fired, undone, refused, wordOf, answerLine, lineOf, valueLimit}
 use Rattle.report.proofs.Places.{digits-few, decimal-five}
@@ -73,15 +74,17 @@ abbrev Wrote : List ℕ → ℕ → List ℕ → ℕ → List ℕ → Type 0
 Wrote ws k b k′ b′ = (k′ ≡ k + length ws) × (b′ ≡ sets b k ws)
 
 -- the four writers, one after the other, leave the line
-pub pieces : (b : List ℕ) {b₁ b₂ b₃ b₄ : List ℕ} {k₁ k₂ k₃ k₄ : ℕ} (n w v : ℕ) → v < 100000 → Wrote (digits 10 n) 0 b k₁ b₁ → Wrote (wordOf w) k₁ b₁ k₂ b₂ → Wrote (digits 5 v) k₂ b₂ k₃ b₃ → Wrote (10 ∷ []) k₃ b₃ k₄ b₄ → (k₄ ≡ length (answerLine n w v)) × (b₄ ≡ sets b 0 (answerLine n w v))
+pub pieces : (b : List ℕ) {b₁ b₂ b₃ b₄ : List ℕ} (at : ℕ) {k₁ k₂ k₃ k₄ : ℕ} (n w v : ℕ) → v < 100000 → Wrote (digits 10 n) at b k₁ b₁ → Wrote (wordOf w) k₁ b₁ k₂ b₂ → Wrote (digits 5 v) k₂ b₂ k₃ b₃ → Wrote (10 ∷ []) k₃ b₃ k₄ b₄ → Wrote (answerLine n w v) at b k₄ b₄
 unfolding answerLine decimal
-pieces b n w v h w₁ w₂ w₃ w₄ =
-    let all = written-more (10 ∷ []) (written-more (digits 5 v) (written-more (wordOf w) (written-more (digits 10 n) (written-none b) w₁) w₂) w₃) w₄ in
+pieces b at n w v h w₁ w₂ w₃ w₄ =
+    let all = written-more (10 ∷ []) (written-more (digits 5 v) (written-more (wordOf w) (written-more (digits 10 n) (written-none b at) w₁) w₂) w₃) w₄ in
     let t : digits 5 v ≡ digits 10 v = decimal-five v h in
-    rw (← t) (all .count, all .list)
+    rw (← t) (written-pair all)
 
 -- ---- The answer
 
--- what was written for x was written for an answer that is x
-pub told : (b : List ℕ) {b′ : List ℕ} {r : ℕ} (n : ℕ) (k : Key) {a : Answer} (x : Answer) → a ≡ x → (r ≡ length (lineOf n x k)) × (b′ ≡ sets b 0 (lineOf n x k)) → (r ≡ length (lineOf n a k)) × (b′ ≡ sets b 0 (lineOf n a k))
-told b n k x e w = rw e w
+-- what was written from byte 0 on for x was written for an answer that is x
+pub told : (b : List ℕ) {b′ : List ℕ} {r : ℕ} (n : ℕ) (k : Key) {a : Answer} (x : Answer) → a ≡ x → Wrote (lineOf n x k) 0 b r b′ → (r ≡ length (lineOf n a k)) × (b′ ≡ sets b 0 (lineOf n a k))
+told b n k {a} x e w =
+    let z : 0 + length (lineOf n x k) ≡ length (lineOf n x k) = zero-add (length (lineOf n x k)) in
+    rw e (w .0 ∙ z, w .1)

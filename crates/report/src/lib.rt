@@ -34,13 +34,13 @@ pub fn put_answer(buf: &mut [u8], at: usize, word: u8) -> usize
     put_word(buf, at, b" refused ")
 }
 
-// The line, from byte 0 on. Answers where it ends. `answer_line` sees to the buffer's length, `put_answer_line` to the value:
-// a refusal's number has at most three digits (01, the exam program).
-pub fn put_line(buf: &mut [u8], number: u32, word: u8, value: u16) -> usize
-    requires { ⌜ (minLine ≤ length (now buf)) × (value < valueLimit word) ⌝ }
-    ensures { λ r. ⌜ (r ≡ length (answerLine number word value)) × (now (buf .exit) ≡ sets (now (buf .entry)) 0 (answerLine number word value)) ⌝ }
+// The line, from `at` on. Answers where it ends. `answer_line` and the whole output see to the room, `put_answer_line` and
+// the whole output to the value: a refusal's number has at most three digits (01, the exam program).
+pub fn put_line(buf: &mut [u8], at: usize, number: u32, word: u8, value: u16) -> usize
+    requires { ⌜ (at + minLine ≤ length (now buf)) × (value < valueLimit word) ⌝ }
+    ensures { λ r. ⌜ (r ≡ at + length (answerLine number word value)) × (now (buf .exit) ≡ sets (now (buf .entry)) at (answerLine number word value)) ⌝ }
 {
-    let a = put_digits(buf, 0, number, 10);
+    let a = put_digits(buf, at, number, 10);
     let b = put_answer(buf, a, word);
     let e = put_digits(buf, b, value as u32, 5);
     put_word(buf, e, b"\n")
@@ -53,9 +53,9 @@ fn put_answer_line(buf: &mut [u8], number: u32, answer: Answer, key: Key) -> usi
     ensures { λ r. ⌜ (r ≡ length (lineOf number answer key)) × (now (buf .exit) ≡ sets (now (buf .entry)) 0 (lineOf number answer key)) ⌝ }
 {
     match answer {
-        Answer::Fired => put_line(buf, number, 0, key.0),
-        Answer::Undone => put_line(buf, number, 1, key.0),
-        Answer::Refused(n) => put_line(buf, number, 2, n as u16),
+        Answer::Fired => put_line(buf, 0, number, 0, key.0),
+        Answer::Undone => put_line(buf, 0, number, 1, key.0),
+        Answer::Refused(n) => put_line(buf, 0, number, 2, n as u16),
     }
 }
 

@@ -1,3 +1,4 @@
 -- Laws of text in a buffer.
 pub mod Writes
 pub mod Digits
+pub mod Joined

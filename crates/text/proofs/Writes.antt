@@ -4,6 +4,7 @@ use mathlib.Core.Path.{_≡_, refl, sym, ap, _∙_}
 use Prim.Native.Nat.{ℕ, suc, _+_, _≤_, _<_}
 use native.Mathlib.Numerals.{add-one}
 use native.Mathlib.Nat.{add-zero, add-suc, suc-add, zero-add, le-of-lt}
+use native.Mathlib.Omega.{arith}
 use mathlib.Core.List.{List, [], _∷_, _++_}
 use lib.ListN.{length, getD, set, take, drop, length-append}
 use lib.Seq.{sets, sets-eq, take-suc, length-take-le}
@@ -34,23 +35,21 @@ copied-more b₀ word at i h =
     let q : at + length (take i word) ≡ at + i = ap (λ (k : ℕ). at + k) e in
     ap (λ (k : ℕ). set (sets b₀ at (take i word)) k (getD word i 0)) (sym q) ∙ s ∙ sym (rw (add-one i, take-suc word i 0))
 
--- a buffer l of which the first k bytes are now the text vs
-pub record Written (l vs : List ℕ) (k : ℕ) (now : List ℕ) : Type 0 where
-  pub count : k ≡ length vs
-  pub list : now ≡ sets l 0 vs
+-- a buffer l in which the text vs now stands from at on, up to k
+pub record Written (l : List ℕ) (at : ℕ) (vs : List ℕ) (k : ℕ) (now : List ℕ) : Type 0 where
+  pub count : k ≡ at + length vs
+  pub list : now ≡ sets l at vs
 
-pub written-none : (l : List ℕ) → Written l [] 0 l
-written-none l = record { count = refl; list = refl }
+pub written-none : (l : List ℕ) (at : ℕ) → Written l at [] at l
+written-none l at = record { count = sym (add-zero at); list = refl }
 
 -- one writer more
-pub written-more : {l vs now : List ℕ} {k : ℕ} (ws : List ℕ) {k′ : ℕ} {now′ : List ℕ} → Written l vs k now → (k′ ≡ k + length ws) × (now′ ≡ sets now k ws) → Written l (vs ++ ws) k′ now′
-written-more {l} {vs} ws w e = record {
-  count = e .0 ∙ ap (λ (n : ℕ). n + length ws) (w .count) ∙ sym (length-append vs ws);
-  list =
-      let z : 0 + length vs ≡ length vs = zero-add (length vs) in
-      e .1 ∙ rw (w .list, w .count, ← z) (sets-sets vs ws l 0);
-}
+pub written-more : {l vs now : List ℕ} {at k : ℕ} (ws : List ℕ) {k′ : ℕ} {now′ : List ℕ} → Written l at vs k now → (k′ ≡ k + length ws) × (now′ ≡ sets now k ws) → Written l at (vs ++ ws) k′ now′
+written-more {l} {vs} {now} {at} {k} ws {k′} w e = record { count = counts; list = e .1 ∙ rw (w .list, w .count) (sets-sets vs ws l at) }
+  where
+    counts : k′ ≡ at + length (vs ++ ws)
+    counts = let a = length-append vs ws in let b = w .count in let d = e .0 in omega arith
 
--- all of the buffer
-pub written-all : {l vs now : List ℕ} {k : ℕ} → length vs ≤ length l → Written l vs k now → now ≡ vs ++ drop (length vs) l
-written-all {l} {vs} h w = w .list ∙ sets-front vs l h
+-- the contract of a writer
+pub written-pair : {l vs now : List ℕ} {at k : ℕ} → Written l at vs k now → (k ≡ at + length vs) × (now ≡ sets l at vs)
+written-pair w = (w .count, w .list)

@@ -1,2 +1,3 @@
--- Numbers as text.
+-- Numbers as text, and texts one after the other.
 pub mod Decimal
+pub mod Joined

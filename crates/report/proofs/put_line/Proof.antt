@@ -32,7 +32,7 @@ same-length c = search needs
 returns : tie.Need-returns
 returns c =
     let from = c .before .before .before .before .before .before .before .before .before .before .before .before .before .before .before .before .before .before in
-    pieces (from .args .buf .now) (from .args .number) (from .args .word) (from .args .value) (room (from .args .word) (from .args .value) (from .pre .1) .1) (c .before .before .before .before .before .before .before .before .before .before .before .before .before .before .before .put-digits .ensures) (c .before .before .before .before .before .before .before .before .before .before .before .put-answer .ensures) (c .before .before .before .before .before .before .before .put-digits2 .ensures) (c .before .before .put-word .ensures)
+    pieces (from .args .buf .now) (from .args .at) (from .args .number) (from .args .word) (from .args .value) (room (from .args .word) (from .args .value) (from .pre .1) .1) (c .before .before .before .before .before .before .before .before .before .before .before .before .before .before .before .put-digits .ensures) (c .before .before .before .before .before .before .before .before .before .before .before .put-answer .ensures) (c .before .before .before .before .before .before .before .put-digits2 .ensures) (c .before .before .put-word .ensures)
 
 pub put-line-spec : {M : Type 1} → statement M
 put-line-spec =

@@ -1,0 +1,2 @@
+-- Laws of the closing lines.
+pub mod Lines

@@ -1,0 +1,2 @@
+-- The closing lines of the exam program.
+pub mod Closing
