@@ -23,7 +23,7 @@ use Rattle.net.proofs.Totals.{totals}
 use Rattle.format.specs.Parts.{basesOf}
 use Rattle.format.specs.NetOf.{netOf}
 use Rattle.sheet.specs.Checks.{sheetChecks}
-use Rattle.tally.specs.Counts.{maxCount, oneMore, countedOf}
+use Rattle.tally.specs.Counts.{maxCount, oneMore, countedOf, zeroTally}
 use Rattle.tally.specs.declared.Tally.{Tally}
 use Rattle.session.specs.Records.{recordOf}
 use Rattle.session.specs.declared.Record.{Record}
@@ -31,7 +31,7 @@ use Rattle.session.specs.Commands.{answerOf, countOf, commandOf, freshOf}
 use Rattle.session.specs.Runs.{Session, runOf}
 use Rattle.session.specs.declared.Outcome.{Outcome}
 use Rattle.session.proofs.Steps.{step, follows-fresh}
-use Rattle.claims.specs.Demands.{zeroTally, SessionTotals}
+use Rattle.claims.specs.Demands.{SessionTotals}
 
 -- ---- one command
 

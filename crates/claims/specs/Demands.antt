@@ -17,7 +17,7 @@ use Rattle.net.specs.Journal.{LiveLine, Journal, kindOf, transitionNamed, keyNa
 use Rattle.net.specs.Claims.{fireCommands, numbered, allFired, Totals}
 use Rattle.format.specs.NetOf.{netOf}
 use Rattle.sheet.specs.Checks.{sheetChecks}
-use Rattle.tally.specs.Counts.{maxCount, oneMore}
+use Rattle.tally.specs.Counts.{maxCount, oneMore, zeroTally}
 use Rattle.tally.specs.declared.Tally.{Tally}
 use Rattle.session.specs.Records.{recordOf}
 use Rattle.session.specs.declared.Record.{Record}
@@ -85,9 +85,6 @@ pub record Demand3 (s : List ℕ) (cs : List (List ℕ)) (t : Tally) : Type 0 wh
   pub reordered : (ls : List LiveLine) → Reordering inSet (journalAfter s cs .lines) ls → (t′ : Tally) → ForwardRun s ls (journalAfter s cs .marking) t′
 
 -- ---- Document 01's totals
-
-abbrev pub zeroTally : Tally
-zeroTally = record { fired = 0; undone = 0; refused = 0 }
 
 pub record SessionTotals (s : List ℕ) (cs : List (List ℕ)) : Type 0 where
   -- at every point each base is in one place, bonded bases share a place, and the bonds have their number

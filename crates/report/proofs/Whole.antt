@@ -18,7 +18,7 @@ use Rattle.report.proofs.Places.{decimal-five}
 use Rattle.report.proofs.Pieces.{room}
 
 -- a line whose value is below the limit of its word is no longer than the shortest buffer
-words-fit : (n w v : ℕ) → v < valueLimit w → length (answerLine n w v) ≤ minLine
+pub words-fit : (n w v : ℕ) → v < valueLimit w → length (answerLine n w v) ≤ minLine
 unfolding answerLine decimal
 words-fit n w v h =
     let fit = room w v h in

@@ -1,6 +1,6 @@
--- The codes tell the answers apart: 0 fired, 1 undone, and every refusal of a command on a sound record is 11 or more.
+-- The codes tell the answers apart: 0 fired, 1 undone, and every refusal of a command on a sound record is 11 to 21.
 -- Assumes nothing.
-use mathlib.Core.Path.{_≡_, refl}
+use mathlib.Core.Path.{_≡_, refl, sym, _∙_, ap}
 use mathlib.Core.Bool.{Bool, true, false, not, _&&_}
 use mathlib.Core.List.{List, [], _∷_}
 use Prim.Native.Nat.{ℕ}
@@ -9,22 +9,30 @@ use Rattle.causal.proofs.Tests.{both}
 use Rattle.net.specs.Tests.{pick, all}
 use Rattle.net.specs.Checks.{Check, clear, first}
 use Rattle.net.specs.Journal.{kindOf, transitionNamed, keyNamed, fireReply, undoReply, checks, fireChecks, undoChecks}
-use Rattle.net.proofs.Tests.{and-l, and-r}
+use Rattle.net.proofs.Tests.{and-l, and-r, and-i}
 use Rattle.format.specs.NetOf.{netOf}
-use Rattle.session.specs.Records.{heldIn}
-use Rattle.session.specs.Commands.{refusal, outcomeOf, acceptOf, performOf}
+use Rattle.tally.specs.declared.Tally.{Tally}
+use Rattle.session.specs.Records.{heldIn, Sound}
+use Rattle.session.specs.Commands.{refusal, outcomeOf, acceptOf, performOf, Result, commandOf}
+use Rattle.session.specs.Runs.{Answered, runOf}
 use Rattle.session.specs.declared.Record.{Record}
+use Rattle.session.specs.declared.Outcome.{Outcome}
+use Rattle.session.proofs.Steps.{outcome-is}
+use Rattle.runs.proofs.Stays.{performs, command-sound}
 use Rattle.runs.specs.Lists.{toldApart}
 
-abbrev high : Check → Bool
-high c = leb 11 (c .number)
+abbrev within : ℕ → Bool
+within n = leb 11 n && leb n 21
 
--- the first of checks with high numbers has one
-first-high : (cs : List Check) → all high cs ≡ true → clear cs ≡ false → leb 11 (first cs) ≡ true
+abbrev high : Check → Bool
+high c = within (c .number)
+
+-- the first of checks with such numbers has one
+first-high : (cs : List Check) → all high cs ≡ true → clear cs ≡ false → within (first cs) ≡ true
 first-high [] h e = both true refl e
 first-high (c ∷ cs) h e = go (c .holds) e (first-high cs (and-r (high c) (all high cs) h))
   where
-    go : (b : Bool) → (not b && clear cs) ≡ false → (clear cs ≡ false → leb 11 (first cs) ≡ true) → leb 11 (pick b (c .number) (first cs)) ≡ true
+    go : (b : Bool) → (not b && clear cs) ≡ false → (clear cs ≡ false → within (first cs) ≡ true) → within (pick b (c .number) (first cs)) ≡ true
     go true d ih = and-l (high c) (all high cs) h
     go false d ih = ih d
 
@@ -50,3 +58,11 @@ module _ (s : List ℕ) (r : Record) (c : List ℕ) where
       go : (b : Bool) → clear (checks (netOf s) (heldIn s r) c) ≡ b → toldApart (pick b (acceptOf s r c) (refusal r (first (checks (netOf s) (heldIn s r) c))) .answer) ≡ true
       go true e = accepted-told
       go false e = first-high (checks (netOf s) (heldIn s r) c) all-high e
+
+-- every answer of a list of commands
+pub all-told : (s : List ℕ) (cs : List (List ℕ)) (r : Record) (t : Tally) → Sound s r → all (λ (a : Answered). toldApart (a .answer)) (runOf s cs r t .answers) ≡ true
+all-told s [] r t S = refl
+all-told s (c ∷ cs) r t S =
+    let y : Result = commandOf s r t c in
+    and-i (toldApart (y .outcome .answer)) _ (ap (λ (o : Outcome). toldApart (o .answer)) (outcome-is s r t c ∙ sym (performs s r S c)) ∙ told s r c)
+    (all-told s cs (y .outcome .session) (y .tally) (command-sound s r S t c))

@@ -5,8 +5,8 @@ use mathlib.Core.List.{List, [], _∷_, _++_, map}
 use Prim.Native.Nat.{ℕ, zero, suc, _+_, _-_, _<_, _≤_}
 use native.Mathlib.Nat.{zero-add}
 use native.Mathlib.Omega.{arith}
-use lib.ListN.{length, set, take, drop, length-drop}
-use lib.Seq.{sets, take-all}
+use lib.ListN.{length, set, take, drop, length-drop, drop-of-length-le}
+use lib.Seq.{sets, take-all, take-nil}
 use Rattle.net.specs.Tests.{table}
 use Rattle.net.proofs.Tables.{length-table, table-more}
 use Rattle.text.proofs.Writes.{sets-snoc}
@@ -51,7 +51,7 @@ ran-sound s b r t S = run-sound s (commandsIn b) r t S
 
 -- ---- lists of numbers
 
-length-map : {A : Type 0} (f : A → ℕ) (l : List A) → length (map f l) ≡ length l
+pub length-map : {A : Type 0} (f : A → ℕ) (l : List A) → length (map f l) ≡ length l
 length-map f [] = refl
 length-map f (x ∷ l) = ap suc (length-map f l)
 
@@ -64,17 +64,22 @@ stored : {A : Type 0} (f : A → ℕ) (l : List A) (x : A) (b : List ℕ) (i : �
 stored f l x b i e =
     ap (λ (k : ℕ). set (sets b 0 (map f l)) k (f x)) (sym (zero-add (length (map f l)) ∙ length-map f l ∙ e)) ∙ sets-snoc (map f l) b 0 (f x) ∙ ap (sets b 0) (sym (map-snoc f l x))
 
--- ---- the part of the bytes that is a command
+-- ---- a part of the bytes: so many from a position on, or those that are left
 
-pub cut-part : (b : List ℕ) (at : ℕ) → length b - at < 3 → take (length b - at) (drop at b) ≡ take 3 (drop at b)
-cut-part b at h =
+pub cut-part : (b : List ℕ) (at most : ℕ) → length b - at < most → take (length b - at) (drop at b) ≡ take most (drop at b)
+cut-part b at most h =
     let e : length (drop at b) ≡ length b - at = length-drop at b in
     let le : length (drop at b) ≤ length b - at = omega arith in
-    let lo : length (drop at b) ≤ 3 = omega arith in
-    take-all (length b - at) (drop at b) le ∙ sym (take-all 3 (drop at b) lo)
+    let lo : length (drop at b) ≤ most = omega arith in
+    take-all (length b - at) (drop at b) le ∙ sym (take-all most (drop at b) lo)
 
-pub whole-part : (b : List ℕ) (at : ℕ) → take (at + 3 - at) (drop at b) ≡ take 3 (drop at b)
-whole-part b at = let e : at + 3 - at ≡ 3 = omega arith in ap (λ (k : ℕ). take k (drop at b)) e
+pub whole-part : (b : List ℕ) (at most : ℕ) → take (at + most - at) (drop at b) ≡ take most (drop at b)
+whole-part b at most = let e : at + most - at ≡ most = omega arith in ap (λ (k : ℕ). take k (drop at b)) e
+
+pub no-part : (b : List ℕ) (at most : ℕ) → length b ≤ at → take (length b - length b) (drop (length b) b) ≡ take most (drop at b)
+no-part b at most h =
+    let z : length b - length b ≡ 0 = omega arith in
+    ap (λ (k : ℕ). take k (drop (length b) b)) z ∙ sym (ap (take most) (drop-of-length-le b h) ∙ take-nil most)
 
 -- ---- the run to a position
 

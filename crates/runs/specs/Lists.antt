@@ -1,6 +1,6 @@
 -- A whole list of commands, given as bytes (01, commands, record, tally), and what it answers from a sound record.
 -- Definitions only.
-use mathlib.Core.Bool.{Bool, true}
+use mathlib.Core.Bool.{Bool, true, _&&_}
 use mathlib.Core.List.{List, map}
 use lib.Dec.{leb}
 use Prim.Native.Nat.{ℕ, _+_, _*_, _/_}
@@ -35,11 +35,11 @@ codeOf Fired = 0
 codeOf Undone = 1
 codeOf (Refused n) = n
 
--- Fired, undone, or a refusal whose number is 11 or more: proofs/Codes shows it of every command on a sound record.
+-- Fired, undone, or a refusal whose number is 11 to 21: proofs/Codes shows it of every command on a sound record.
 abbrev pub toldApart : Answer → Bool
 toldApart Fired = true
 toldApart Undone = true
-toldApart (Refused n) = leb 11 n
+toldApart (Refused n) = leb 11 n && leb n 21
 
 abbrev pub codesOf : Session → List ℕ
 codesOf y = map (λ (a : Answered). codeOf (a .answer)) (y .answers)

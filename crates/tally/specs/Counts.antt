@@ -19,3 +19,7 @@ countedOf t which =
     pick (eqb which 0) (record { fired = oneMore (t .fired); undone = t .undone; refused = t .refused })
     (pick (eqb which 1) (record { fired = t .fired; undone = oneMore (t .undone); refused = t .refused })
     (record { fired = t .fired; undone = t .undone; refused = oneMore (t .refused) }))
+
+-- a tally that begins
+abbrev pub zeroTally : Tally
+zeroTally = record { fired = 0; undone = 0; refused = 0 }

@@ -1,19 +1,15 @@
 -- Laws of texts one after the other: one text more, and a list of texts by position.
 -- Assumes nothing.
-use mathlib.Core.Path.{_≡_, refl, sym, ap, _∙_}
+use mathlib.Core.Path.{_≡_, sym, ap, _∙_}
 use Prim.Native.Nat.{ℕ, zero, suc, _+_, _*_, _≤_}
 use native.Mathlib.Omega.{arith}
-use mathlib.Core.List.{List, [], _∷_, _++_, append-assoc}
+use mathlib.Core.List.{List, [], _∷_, _++_, append-assoc, append-nil}
 use lib.ListN.{length, length-append}
 use lib.Seq.{sets}
 use Rattle.net.specs.Tests.{table}
 use Rattle.net.proofs.Tables.{table-more}
 use Rattle.text.specs.Joined.{joined}
 use Rattle.text.proofs.Writes.{Written, written-more}
-
-append-nil : (t : List ℕ) → t ++ [] ≡ t
-append-nil [] = refl
-append-nil (x ∷ t) = ap (λ (k : List ℕ). x ∷ k) (append-nil t)
 
 pub joined-snoc : (ts : List (List ℕ)) (t : List ℕ) → joined (ts ++ (t ∷ [])) ≡ joined ts ++ t
 joined-snoc [] t = append-nil t

@@ -21,7 +21,7 @@ part-result-end : tie.Need-part-result-end
 part-result-end c = search needs
 
 returns : tie.Need-returns
-returns c = cut-part (c .before .before .args .commands .now) (c .before .before .args .at) (c .before .if1 .taken)
+returns c = cut-part (c .before .before .args .commands .now) (c .before .before .args .at) 3 (c .before .if1 .taken)
 
 add-result : tie.Need-add-result
 add-result c = search needs
@@ -36,7 +36,7 @@ part-result-end-2 : tie.Need-part-result-end-2
 part-result-end-2 c = search needs
 
 returns-2 : tie.Need-returns-2
-returns-2 c = whole-part (c .before .before .args .commands .now) (c .before .before .args .at)
+returns-2 c = whole-part (c .before .before .args .commands .now) (c .before .before .args .at) 3
 
 pub command-at-spec : {M : Type 1} → statement M
 command-at-spec =

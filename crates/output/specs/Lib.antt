@@ -1,0 +1,3 @@
+-- The whole output of the exam program, and the answers as numbers on the way to it.
+pub mod Output
+pub mod Coded

@@ -1,0 +1,74 @@
+-- The whole output of the exam program, of the bytes of its input (01, the exam program), over the journal.
+-- Definitions only.
+use mathlib.Core.List.{List, [], _∷_, _++_, map}
+use Prim.Native.Nat.{ℕ, suc, _+_, _*_}
+use lib.ListN.{take, drop}
+use Rattle.net.specs.Tests.{pick}
+use Rattle.net.specs.Checks.{clear, first}
+use Rattle.net.specs.Net.{Net}
+use Rattle.net.specs.Journal as J
+use Rattle.net.specs.Journal.{LiveLine, Journal, begin, play, answers}
+use Rattle.format.specs.Bytes.{wordAt}
+use Rattle.format.specs.NetOf.{netOf}
+use Rattle.sheet.specs.Checks.{sheetChecks}
+use Rattle.tally.specs.Counts.{countedOf, zeroTally}
+use Rattle.tally.specs.declared.Tally.{Tally}
+use Rattle.text.specs.Decimal.{decimal}
+use Rattle.closing.specs.Closing.{placesLine, bondLines, liveLine, tallyLine}
+use Rattle.session.specs.Commands.{answerOf, keyOf, countOf}
+use Rattle.runs.specs.Lists.{commandsIn}
+use Rattle.report.specs.Lines.{lineOf}
+
+-- ---- The input: the sheet's length in two bytes, the sheet, the commands
+
+-- Missing bytes shorten the sheet; fewer than two bytes of input mean an empty one.
+abbrev pub sheetIn : List ℕ → List ℕ
+sheetIn input = take (wordAt input 0) (drop 2 input)
+
+-- how many commands are read
+abbrev pub maxCommands : ℕ
+maxCommands = 65535
+
+-- the commands' bytes: what comes after the sheet, and of that as many bytes as that many commands have
+abbrev pub commandBytes : List ℕ → List ℕ
+commandBytes input = take (3 * maxCommands) (drop (2 + wordAt input 0) input)
+
+-- ---- A refused sheet
+
+-- `sheet refused ` and the number
+abbrev pub sheetRefused : List ℕ
+sheetRefused = 115 ∷ 104 ∷ 101 ∷ 101 ∷ 116 ∷ 32 ∷ 114 ∷ 101 ∷ 102 ∷ 117 ∷ 115 ∷ 101 ∷ 100 ∷ 32 ∷ []
+
+unfoldable pub refusedSheet : ℕ → List ℕ
+refusedSheet n = sheetRefused ++ decimal n ++ (10 ∷ [])
+
+-- ---- A session: a line for each command, then the closing lines
+
+-- the answers' lines; the first has the number k + 1
+abbrev pub answerLines : ℕ → List J.Answer → List ℕ
+answerLines k [] = []
+answerLines k (a ∷ rest) = lineOf (suc k) (answerOf a) (keyOf a) ++ answerLines (suc k) rest
+
+-- the tally after the answers: each command adds one to one count
+abbrev pub tallied : List J.Answer → Tally → Tally
+tallied [] t = t
+tallied (a ∷ rest) t = tallied rest (countedOf t (countOf (answerOf a)))
+
+-- the serials of the live firings, in their order
+abbrev pub keysLive : List LiveLine → List ℕ
+keysLive ls = map (λ (l : LiveLine). l .key .0) ls
+
+-- places, bonds, live firings, tally
+unfoldable pub closingOf : Journal → Tally → List ℕ
+closingOf j t = placesLine (j .marking .places) ++ bondLines (j .marking .bonds) ++ liveLine (keysLive (j .lines)) ++ tallyLine (t .fired) (t .undone) (t .refused)
+
+unfoldable pub sessionText : Net → List (List ℕ) → List ℕ
+sessionText net cs = answerLines 0 (answers net cs (begin net)) ++ closingOf (play net cs (begin net)) (tallied (answers net cs (begin net)) zeroTally)
+
+-- ---- The whole
+
+-- an accepted sheet's session, or the sheet's refusal
+unfoldable pub output : List ℕ → List ℕ
+output input =
+    let s : List ℕ = sheetIn input in
+    pick (clear (sheetChecks s)) (sessionText (netOf s) (commandsIn (commandBytes input))) (refusedSheet (first (sheetChecks s)))

@@ -1,0 +1,233 @@
+// The whole output of the exam program, from its whole input (document 01, the exam program): every command is performed
+// once, on the record that the one before handed back, and the session is not replayed.
+ghost use mathlib.Core.Path.{_≡_};
+ghost use mathlib.Core.Bool.{true};
+ghost use Prim.Native.Nat.{_+_, _*_, _<_, _≤_};
+ghost use lib.ListN.{length, take, drop};
+ghost use lib.Seq.{sets};
+ghost use Rattle.net.specs.Limits.{maxBases, maxBonds, maxLive};
+ghost use Rattle.net.specs.Checks.{clear};
+ghost use Rattle.format.specs.NetOf.{netOf};
+ghost use Rattle.sheet.specs.Checks.{sheetChecks};
+ghost use Rattle.closing.specs.Closing.{placesLine, liveLine};
+ghost use Rattle.sound.specs.Soundness.{journalIn};
+ghost use Rattle.session.specs.Commands.{freshOf};
+ghost use Rattle.runs.specs.Lists.{commandsIn};
+ghost use Rattle.report.specs.Lines.{valueLimit, minLine};
+ghost use Rattle.output.specs.Output.{maxCommands, sheetIn, commandBytes, refusedSheet, closingOf, sessionText, output};
+ghost use Rattle.output.specs.Coded.{codedLine, codedLines, LowCodes, keysIn, placesRoom, liveRoom, closingRoom, maxOutput};
+use closing::put_bonds;
+use closing::put_live;
+use closing::put_places;
+use closing::put_tally;
+use firings::Firing;
+use format::base_count;
+use format::word_at;
+use net::MAX_BASES;
+use net::MAX_LIVE;
+use net::Place;
+use opening::start;
+use report::put_line;
+use runs::run;
+use session::Record;
+use session::StartAnswer;
+use tally::Tally;
+use text::put_digits;
+use text::put_word;
+
+// How many commands are read, and the longest output: the room that `write_output` asks for.
+pub const MAX_COMMANDS: usize = 65535;
+
+pub const MAX_OUTPUT: usize = 1630843;
+
+// At most so many bytes of a list, from a position on: those that are there.
+fn bytes_from<'a>(s: &'a [u8], from: usize, most: usize) -> &'a [u8]
+    ensures { λ r. ⌜ now r ≡ take most (drop from (now (s .entry))) ⌝ }
+{
+    let n = s.len();
+    if n <= from {
+        return &s[n..n];
+    }
+    if n - from < most {
+        return &s[from..n];
+    }
+    &s[from..from + most]
+}
+
+// The sheet: as many bytes as the first two say, or those that are there.
+fn sheet_in<'a>(input: &'a [u8]) -> &'a [u8]
+    ensures { λ r. ⌜ now r ≡ sheetIn (now (input .entry)) ⌝ }
+{
+    let length = word_at(input, 0);
+    bytes_from(input, 2, length)
+}
+
+// The bytes of the commands: what comes after the sheet, as far as commands are read.
+fn commands_in<'a>(input: &'a [u8]) -> &'a [u8]
+    ensures { λ r. ⌜ now r ≡ commandBytes (now (input .entry)) ⌝ }
+{
+    let length = word_at(input, 0);
+    bytes_from(input, 2 + length, 3 * MAX_COMMANDS)
+}
+
+// The line of an answer that is given as its code and its key. `put_answers` sees to the room and to the code.
+fn put_coded(buf: &mut [u8], at: usize, number: u32, code: u16, key: u16) -> usize
+    requires { ⌜ (at + minLine ≤ length (now buf)) × (code < valueLimit 2) ⌝ }
+    ensures { λ r. ⌜ (r ≡ at + length (codedLine number code key)) × (now (buf .exit) ≡ sets (now (buf .entry)) at (codedLine number code key)) ⌝ }
+    ensures { λ r. ⌜ r ≤ at + minLine ⌝ }
+{
+    if code == 0 {
+        return put_line(buf, at, number, 0, key);
+    }
+    if code == 1 {
+        return put_line(buf, at, number, 1, key);
+    }
+    put_line(buf, at, number, 2, code)
+}
+
+// The first n answers, numbered from 1. `put_session` sees to the room; every code of a command is below 22.
+fn put_answers(buf: &mut [u8], codes: &[u16], keys: &[u16], n: usize) -> usize
+    requires { ⌜ (minLine * n ≤ length (now buf)) × (n ≤ maxCommands) × (n ≤ length (now codes)) × (n ≤ length (now keys)) × LowCodes (now codes) n ⌝ }
+    ensures { λ r. ⌜ (r ≡ length (codedLines (now (codes .entry)) (now (keys .entry)) n)) × (now (buf .exit) ≡ sets (now (buf .entry)) 0 (codedLines (now (codes .entry)) (now (keys .entry)) n)) ⌝ }
+    ensures { λ r. ⌜ r ≤ minLine * n ⌝ }
+{
+    let mut pos = 0;
+    let mut i = 0;
+    while i < n {
+        pos = put_coded(buf, pos, (i + 1) as u32, codes[i], keys[i]);
+        i += 1;
+    }
+    pos
+}
+
+// The places as wider numbers.
+fn widened(places: [Place; MAX_BASES]) -> [u16; MAX_BASES]
+    ensures { λ r. ⌜ r ≡ places ⌝ }
+{
+    let mut wide = [0u16; MAX_BASES];
+    let mut i = 0;
+    while i < MAX_BASES {
+        wide[i] = places[i] as u16;
+        i += 1;
+    }
+    wide
+}
+
+// The key of a firing, as a number.
+fn key_of(f: Firing) -> u16
+    ensures { λ r. ⌜ r ≡ f .key .0 ⌝ }
+{
+    f.key.0
+}
+
+// The keys of the firings.
+fn keys_of(firings: [Firing; MAX_LIVE]) -> [u16; MAX_LIVE]
+    ensures { λ r. ⌜ r ≡ keysIn firings maxLive ⌝ }
+{
+    let mut keys = [0u16; MAX_LIVE];
+    let mut i = 0;
+    while i < MAX_LIVE {
+        let f = firings[i];
+        keys[i] = key_of(f);
+        i += 1;
+    }
+    keys
+}
+
+// `places` and the places of the first n bases. `put_closing` sees to the room, as for the function below.
+fn put_base_places(buf: &mut [u8], at: usize, places: [Place; MAX_BASES], n: usize) -> usize
+    requires { ⌜ (at + placesRoom ≤ length (now buf)) × (n ≤ maxBases) ⌝ }
+    ensures { λ r. ⌜ (r ≡ at + length (placesLine (take n places))) × (now (buf .exit) ≡ sets (now (buf .entry)) at (placesLine (take n places))) ⌝ }
+    ensures { λ r. ⌜ r ≤ at + placesRoom ⌝ }
+{
+    let wide = widened(places);
+    put_places(buf, at, &wide[..n])
+}
+
+// `live` and the keys of the first n firings.
+fn put_live_keys(buf: &mut [u8], at: usize, firings: [Firing; MAX_LIVE], n: usize) -> usize
+    requires { ⌜ (at + liveRoom ≤ length (now buf)) × (n ≤ maxLive) ⌝ }
+    ensures { λ r. ⌜ (r ≡ at + length (liveLine (keysIn firings n))) × (now (buf .exit) ≡ sets (now (buf .entry)) at (liveLine (keysIn firings n))) ⌝ }
+    ensures { λ r. ⌜ r ≤ at + liveRoom ⌝ }
+{
+    let keys = keys_of(firings);
+    put_live(buf, at, &keys[..n])
+}
+
+// The closing lines of what a record holds. `put_session` has a sound record and sees to the room.
+fn put_closing(buf: &mut [u8], at: usize, bases: usize, r: Record, t: Tally) -> usize
+    requires { ⌜ (at + closingRoom ≤ length (now buf)) × (bases ≤ maxBases) × (r .marking .count ≤ maxBonds) × (r .live ≤ maxLive) ⌝ }
+    ensures { λ x. ⌜ (x ≡ at + length (closingOf (journalIn bases (r .marking) (r .live) (r .firings)) t)) × (now (buf .exit) ≡ sets (now (buf .entry)) at (closingOf (journalIn bases (r .marking) (r .live) (r .firings)) t)) ⌝ }
+    ensures { λ x. ⌜ x ≤ at + closingRoom ⌝ }
+{
+    let m = r.marking;
+    let places = m.places;
+    let lo = m.lo;
+    let hi = m.hi;
+    let count = m.count;
+    let firings = r.firings;
+    let live = r.live;
+    let a = put_base_places(buf, at, places, bases);
+    let b = put_bonds(buf, a, &lo, &hi, count);
+    let c = put_live_keys(buf, b, firings, live);
+    put_tally(buf, c, t.fired, t.undone, t.refused)
+}
+
+// Room for a code or a key of each command. Only its length matters.
+fn command_room() -> [u16; MAX_COMMANDS]
+    ensures { λ r. ⌜ maxCommands ≡ length r ⌝ }
+{
+    [0; MAX_COMMANDS]
+}
+
+// A session on an accepted sheet, from a fresh record and a tally of zeros. `write_output` has started it.
+fn put_session(buf: &mut [u8], sheet: &[u8], commands: &[u8], r: Record) -> usize
+    requires { ⌜ (maxOutput ≤ length (now buf)) × (length (now commands) ≤ 3 * maxCommands) × (clear (sheetChecks (now sheet)) ≡ true) × (r ≡ freshOf (now sheet)) ⌝ }
+    ensures { λ r. ⌜ (r ≡ length (sessionText (netOf (now (sheet .entry))) (commandsIn (now (commands .entry))))) × (now (buf .exit) ≡ sets (now (buf .entry)) 0 (sessionText (netOf (now (sheet .entry))) (commandsIn (now (commands .entry))))) ⌝ }
+    ensures { λ r. ⌜ r ≤ maxOutput ⌝ }
+{
+    let mut codes = command_room();
+    let mut keys = command_room();
+    let zero = Tally {
+        fired: 0,
+        undone: 0,
+        refused: 0,
+    };
+    let ran = run(r, sheet, commands, zero, &mut codes, &mut keys);
+    let n = (commands.len() + 2) / 3;
+    let at = put_answers(buf, &codes, &keys, n);
+    let bases = base_count(sheet) as usize;
+    let session = ran.session;
+    let tally = ran.tally;
+    put_closing(buf, at, bases, session, tally)
+}
+
+// `sheet refused` and the number. `write_output` sees to the room.
+fn put_refused(buf: &mut [u8], n: u8) -> usize
+    requires { ⌜ maxOutput ≤ length (now buf) ⌝ }
+    ensures { λ r. ⌜ (r ≡ length (refusedSheet n)) × (now (buf .exit) ≡ sets (now (buf .entry)) 0 (refusedSheet n)) ⌝ }
+    ensures { λ r. ⌜ r ≤ maxOutput ⌝ }
+{
+    let a = put_word(buf, 0, b"sheet refused ");
+    let b = put_digits(buf, a, n as u32, 10);
+    put_word(buf, b, b"\n")
+}
+
+// The whole output, from byte 0 on; the rest of the buffer stays as it was. The program lends a buffer of MAX_OUTPUT bytes.
+pub fn write_output(input: &[u8], buf: &mut [u8]) -> usize
+    requires { ⌜ maxOutput ≤ length (now buf) ⌝ }
+    ensures { λ r. ⌜ (r ≡ length (output (now (input .entry)))) × (now (buf .exit) ≡ sets (now (buf .entry)) 0 (output (now (input .entry)))) ⌝ }
+    ensures { λ r. ⌜ r ≤ maxOutput ⌝ }
+{
+    let sheet = sheet_in(input);
+    let begun = start(sheet);
+    let answer = begun.answer;
+    match answer {
+        StartAnswer::Started => {
+            let commands = commands_in(input);
+            let r = begun.session;
+            put_session(buf, sheet, commands, r)
+        }
+        StartAnswer::NotStarted(n) => put_refused(buf, n),
+    }
+}
