@@ -1,0 +1,3 @@
+-- That document 01's firing and taking back are the published ones.
+pub mod Arcs
+pub mod Nets
