@@ -1,3 +1,6 @@
 -- That document 01's firing and taking back are the published ones.
 pub mod Arcs
 pub mod Nets
+pub mod Components
+pub mod Enabling
+pub mod Firing
