@@ -4,3 +4,4 @@ pub mod Nets
 pub mod Components
 pub mod Enabling
 pub mod Firing
+pub mod Reversal
