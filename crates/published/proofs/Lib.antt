@@ -5,3 +5,6 @@ pub mod Components
 pub mod Enabling
 pub mod Firing
 pub mod Reversal
+pub mod Lines
+pub mod Sessions
+pub mod Keys

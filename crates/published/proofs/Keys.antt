@@ -1,0 +1,120 @@
+-- Histories: a firing gives exactly the keys of Definition 5, a taking back those of Definition 7; and a firing that 20 does
+-- not refuse is its transition's latest. Assumes that the net meets the sheet's rules, and a journal that commands keep.
+use mathlib.Core.Path.{_≡_, refl, sym, _∙_, ap, subst}
+use mathlib.Core.Logic.{_⊎_, inl, inr}
+use mathlib.Core.Bool.{true, false}
+use mathlib.Core.List.{List, _++_, _∷_, []}
+use Prim.Native.Nat.{ℕ, suc, _<_, _≤_}
+use native.Mathlib.Omega.{arith}
+use lib.Dec.{leb, ltb}
+use borrow.Author.Tests.{not-false, ltb-true, ltb-false}
+use Rattle.causal.specs.Lists.{Mem}
+use Rattle.causal.proofs.Tests.{test, both}
+use Rattle.net.specs.Net.{Net, arcsOf}
+use Rattle.net.specs.Rules.{netRule}
+use Rattle.net.specs.Firing.{inSet}
+use Rattle.net.specs.Checks.{clear}
+use Rattle.net.specs.Journal.{LiveLine, Journal, highestLive, isLive, lineOf, builtOn, undoChecks, newLine, fireReply, undoReply}
+use Rattle.net.specs.declared.Entry.{Entry}
+use Rattle.net.specs.declared.Key.{Key}
+use Rattle.net.specs.declared.Transition.{Transition}
+use Rattle.net.proofs.Checks.{clear-off}
+use Rattle.net.proofs.Keys.{mem-highest, mem-snoc}
+use Rattle.net.proofs.Journal.{Held}
+use Rattle.published.specs.Sets.{Iff, Max}
+use Rattle.published.specs.Forward.{keysAndZero, firedKeys}
+use Rattle.published.specs.Backtracking.{reversedKeys}
+use Rattle.published.specs.Sheets.{petriNet, keysOf}
+use Rattle.published.proofs.Arcs.{some-entry}
+use Rattle.published.proofs.Lines.{key-of, mem-left, mem-last, one-line, live-line, highest-is, mem-without, without-mem, builtOn-i}
+use Rattle.published.proofs.Sessions.{line-listed, entry-in-line}
+
+-- a set has one highest number
+pub one-max : (S : ℕ → Type 0) (a b : ℕ) → Max S a → Max S b → a ≡ b
+one-max S a b (u, f) (v, g) = let p = f b v in let q = g a u in omega arith
+
+module _ (net : Net) (ok : netRule net ≡ true) (j : Journal) (H : Held net j) where
+  -- the highest live key, or 0, is the highest of all keys and 0
+  pub max-keys : Max (keysAndZero (petriNet net) (keysOf j)) (highestLive (j .lines))
+  max-keys = (go (highest-is (j .lines)), λ i k. below i k)
+    where
+      go : (highestLive (j .lines) ≡ 0) ⊎ ((l : LiveLine) × Mem l (j .lines) × (l .key .0 ≡ highestLive (j .lines))) → keysAndZero (petriNet net) (keysOf j) (highestLive (j .lines))
+      go (inl e) = inl e
+      go (inr (l, m, e)) = inr (l .transition, line-listed net ok j H l m, (l, m, refl, e))
+
+      below : (i : ℕ) → keysAndZero (petriNet net) (keysOf j) i → i ≤ highestLive (j .lines)
+      below i (inl e) = omega arith
+      below i (inr (t, _, (l, m, _, e))) = let a = mem-highest (j .lines) l m in omega arith
+
+  -- ---- a firing
+
+  fired-keys-to : (t u : Transition) (k : ℕ) → keysOf (fireReply net j t .journal) u k → firedKeys (petriNet net) (keysOf j) t u k
+  fired-keys-to t u k (l, m, e, q) = go (mem-snoc (j .lines) (newLine net j t) l m)
+    where
+      go : Mem l (j .lines) ⊎ (l ≡ newLine net j t) → firedKeys (petriNet net) (keysOf j) t u k
+      go (inl n) = inl (l, n, e, q)
+      go (inr d) = inr (sym e ∙ ap (λ (x : LiveLine). x .transition) d, highestLive (j .lines), max-keys, sym q ∙ key-of d)
+
+  fired-keys-from : (t u : Transition) (k : ℕ) → firedKeys (petriNet net) (keysOf j) t u k → keysOf (fireReply net j t .journal) u k
+  fired-keys-from t u k (inl (l, m, e, q)) = (l, mem-left (j .lines) (newLine net j t ∷ []) l m, e, q)
+  fired-keys-from t u k (inr (e, m, x, q)) =
+      let d : m ≡ highestLive (j .lines) = one-max (keysAndZero (petriNet net) (keysOf j)) m (highestLive (j .lines)) x max-keys in
+      (newLine net j t, mem-last (j .lines) (newLine net j t), sym e, ap suc (sym d) ∙ sym q)
+
+  pub fired-keys : (t u : Transition) (k : ℕ) → Iff (keysOf (fireReply net j t .journal) u k) (firedKeys (petriNet net) (keysOf j) t u k)
+  fired-keys t u k = (fired-keys-to t u k, fired-keys-from t u k)
+
+  -- the new key is the highest
+  pub fired-below : (t u : Transition) (k : ℕ) → firedKeys (petriNet net) (keysOf j) t u k → k ≤ suc (highestLive (j .lines))
+  fired-below t u k (inl (l, m, _, e)) = let a = mem-highest (j .lines) l m in omega arith
+  fired-below t u k (inr (_, m, x, q)) =
+      let d : m ≡ highestLive (j .lines) = one-max (keysAndZero (petriNet net) (keysOf j)) m (highestLive (j .lines)) x max-keys in
+      omega arith
+
+  pub fired-newest : (t : Transition) → Max (firedKeys (petriNet net) (keysOf j) t t) (suc (highestLive (j .lines)))
+  fired-newest t = (inr (refl, highestLive (j .lines), max-keys, refl), fired-below t t)
+
+  -- ---- a taking back
+
+  module _ (k : Key) (e : clear (undoChecks j k) ≡ true) where
+    pub undo-live : isLive k (j .lines) ≡ true
+    undo-live = not-false (isLive k (j .lines)) (clear-off (undoChecks j k) e 19)
+
+    pub undo-free : builtOn (j .lines) (lineOf k (j .lines)) ≡ false
+    undo-free = clear-off (undoChecks j k) e 20
+
+    pub undo-mem : Mem (lineOf k (j .lines)) (j .lines)
+    undo-mem = live-line (j .lines) k undo-live .0
+
+    pub undo-key : lineOf k (j .lines) .key .0 ≡ k .0
+    undo-key = live-line (j .lines) k undo-live .1
+
+    -- two firings of one transition have its entries in common, so the latest alone can be taken back
+    latest : (l : LiveLine) → Mem l (j .lines) → l .transition ≡ lineOf k (j .lines) .transition → l .key .0 ≤ k .0
+    latest l m q = test (ltb (k .0) (l .key .0))
+        (λ c.
+        let old : LiveLine = lineOf k (j .lines) in
+        let later : k .0 < l .key .0 = ltb-true (k .0) (l .key .0) c in
+        let (d, n) = some-entry net ok (l .transition) (line-listed net ok j H l m) in
+        both (builtOn (j .lines) old)
+        (builtOn-i (j .lines) old l m (rw undo-key later)
+        (d .base, entry-in-line net ok j H old undo-mem d (subst (λ (t : Transition). Mem d (arcsOf net t .entries)) q n), entry-in-line net ok j H l m d n))
+        undo-free)
+        (λ c. ltb-false (k .0) (l .key .0) c)
+
+    pub undo-latest : Max (keysOf j (lineOf k (j .lines) .transition)) (k .0)
+    undo-latest = ((lineOf k (j .lines), undo-mem, refl, undo-key), λ i (l, m, q, d). let a = latest l m q in omega arith)
+
+    reversed-keys-to : (u : Transition) (i : ℕ) → keysOf (undoReply net j k .journal) u i → reversedKeys (keysOf j) (lineOf k (j .lines) .transition) u i
+    reversed-keys-to u i (l, m, q, d) =
+        let (n, other) = mem-without k (j .lines) l m in
+        ((l, n, q, d), λ (_, x). other (d ∙ one-max (keysOf j (lineOf k (j .lines) .transition)) i (k .0) x undo-latest))
+
+    reversed-keys-from : (u : Transition) (i : ℕ) → reversedKeys (keysOf j) (lineOf k (j .lines) .transition) u i → keysOf (undoReply net j k .journal) u i
+    reversed-keys-from u i ((l, m, q, d), out) = (l, without-mem k (j .lines) l m (λ c. out (same c, subst (Max (keysOf j (lineOf k (j .lines) .transition))) (sym c ∙ d) undo-latest)), q, d)
+      where
+        same : l .key .0 ≡ k .0 → u ≡ lineOf k (j .lines) .transition
+        same c = sym q ∙ ap (λ (x : LiveLine). x .transition) (one-line (j .lines) (H .up) l (lineOf k (j .lines)) m undo-mem (c ∙ sym undo-key))
+
+    pub reversed-keys : (u : Transition) (i : ℕ) → Iff (keysOf (undoReply net j k .journal) u i) (reversedKeys (keysOf j) (lineOf k (j .lines) .transition) u i)
+    reversed-keys u i = (reversed-keys-to u i, reversed-keys-from u i)
