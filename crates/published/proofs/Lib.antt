@@ -8,3 +8,4 @@ pub mod Reversal
 pub mod Lines
 pub mod Sessions
 pub mod Keys
+pub mod Order
