@@ -9,3 +9,4 @@ pub mod Lines
 pub mod Sessions
 pub mod Keys
 pub mod Order
+pub mod Causal
