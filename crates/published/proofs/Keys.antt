@@ -1,5 +1,5 @@
--- Histories: a firing gives exactly the keys of Definition 5, a taking back those of Definition 7; and a firing that 20 does
--- not refuse is its transition's latest. Assumes that the net meets the sheet's rules, and a journal that commands keep.
+-- A firing that 20 does not refuse is its transition's latest, and taking it back gives exactly the history of Definition 7.
+-- Assumes that the net meets the sheet's rules, and a journal that commands keep.
 use mathlib.Core.Path.{_≡_, refl, sym, _∙_, ap, subst}
 use mathlib.Core.Logic.{_⊎_, inl, inr}
 use mathlib.Core.Bool.{true, false}
@@ -34,48 +34,6 @@ pub one-max : (S : ℕ → Type 0) (a b : ℕ) → Max S a → Max S b → a ≡
 one-max S a b (u, f) (v, g) = let p = f b v in let q = g a u in omega arith
 
 module _ (net : Net) (ok : netRule net ≡ true) (j : Journal) (H : Held net j) where
-  -- the highest live key, or 0, is the highest of all keys and 0
-  pub max-keys : Max (keysAndZero (petriNet net) (keysOf j)) (highestLive (j .lines))
-  max-keys = (go (highest-is (j .lines)), λ i k. below i k)
-    where
-      go : (highestLive (j .lines) ≡ 0) ⊎ ((l : LiveLine) × Mem l (j .lines) × (l .key .0 ≡ highestLive (j .lines))) → keysAndZero (petriNet net) (keysOf j) (highestLive (j .lines))
-      go (inl e) = inl e
-      go (inr (l, m, e)) = inr (l .transition, line-listed net ok j H l m, (l, m, refl, e))
-
-      below : (i : ℕ) → keysAndZero (petriNet net) (keysOf j) i → i ≤ highestLive (j .lines)
-      below i (inl e) = omega arith
-      below i (inr (t, _, (l, m, _, e))) = let a = mem-highest (j .lines) l m in omega arith
-
-  -- ---- a firing
-
-  fired-keys-to : (t u : Transition) (k : ℕ) → keysOf (fireReply net j t .journal) u k → firedKeys (petriNet net) (keysOf j) t u k
-  fired-keys-to t u k (l, m, e, q) = go (mem-snoc (j .lines) (newLine net j t) l m)
-    where
-      go : Mem l (j .lines) ⊎ (l ≡ newLine net j t) → firedKeys (petriNet net) (keysOf j) t u k
-      go (inl n) = inl (l, n, e, q)
-      go (inr d) = inr (sym e ∙ ap (λ (x : LiveLine). x .transition) d, highestLive (j .lines), max-keys, sym q ∙ key-of d)
-
-  fired-keys-from : (t u : Transition) (k : ℕ) → firedKeys (petriNet net) (keysOf j) t u k → keysOf (fireReply net j t .journal) u k
-  fired-keys-from t u k (inl (l, m, e, q)) = (l, mem-left (j .lines) (newLine net j t ∷ []) l m, e, q)
-  fired-keys-from t u k (inr (e, m, x, q)) =
-      let d : m ≡ highestLive (j .lines) = one-max (keysAndZero (petriNet net) (keysOf j)) m (highestLive (j .lines)) x max-keys in
-      (newLine net j t, mem-last (j .lines) (newLine net j t), sym e, ap suc (sym d) ∙ sym q)
-
-  pub fired-keys : (t u : Transition) (k : ℕ) → Iff (keysOf (fireReply net j t .journal) u k) (firedKeys (petriNet net) (keysOf j) t u k)
-  fired-keys t u k = (fired-keys-to t u k, fired-keys-from t u k)
-
-  -- the new key is the highest
-  pub fired-below : (t u : Transition) (k : ℕ) → firedKeys (petriNet net) (keysOf j) t u k → k ≤ suc (highestLive (j .lines))
-  fired-below t u k (inl (l, m, _, e)) = let a = mem-highest (j .lines) l m in omega arith
-  fired-below t u k (inr (_, m, x, q)) =
-      let d : m ≡ highestLive (j .lines) = one-max (keysAndZero (petriNet net) (keysOf j)) m (highestLive (j .lines)) x max-keys in
-      omega arith
-
-  pub fired-newest : (t : Transition) → Max (firedKeys (petriNet net) (keysOf j) t t) (suc (highestLive (j .lines)))
-  fired-newest t = (inr (refl, highestLive (j .lines), max-keys, refl), fired-below t t)
-
-  -- ---- a taking back
-
   module _ (k : Key) (e : clear (undoChecks j k) ≡ true) where
     pub undo-live : isLive k (j .lines) ≡ true
     undo-live = not-false (isLive k (j .lines)) (clear-off (undoChecks j k) e 19)

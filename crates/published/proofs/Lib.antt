@@ -8,5 +8,8 @@ pub mod Reversal
 pub mod Lines
 pub mod Sessions
 pub mod Keys
+pub mod FiredKeys
 pub mod Order
 pub mod Causal
+pub mod Cases
+pub mod Claims

@@ -31,7 +31,6 @@ use Rattle.net.proofs.Journal.{Held, enabled-fires, checks-kind, act-held, begi
 use Rattle.published.specs.Sets.{Iff, Item, base, Max}
 use Rattle.published.specs.Nets.{Post}
 use Rattle.published.specs.States.{Con}
-use Rattle.published.specs.Forward.{firedKeys}
 use Rattle.published.specs.Causal.{Uses, DependsOn, Order, noOrder, firedOrder, reversedOrder}
 use Rattle.published.specs.Sheets.{anchor, petriNet, marksOf, keysOf, orderStep, orderAfter, laterWithCommon}
 use Rattle.published.proofs.Components.{con-leads, leads-con}
@@ -39,7 +38,7 @@ use Rattle.published.proofs.Enabling.{at-home}
 use Rattle.published.proofs.Firing.{led-moves, moves-led}
 use Rattle.published.proofs.Lines.{key-of, mem-left, mem-last, one-line, mem-without, without-mem, builtOn-i}
 use Rattle.published.proofs.Sessions.{good-now, line-listed, entry-in-line, still-carried}
-use Rattle.published.proofs.Keys.{one-max, max-keys, fired-below, fired-newest, undo-free, undo-mem, undo-key, undo-latest}
+use Rattle.published.proofs.Keys.{one-max, undo-free, undo-mem, undo-key, undo-latest}
 
 -- The relation is document 01's.
 abbrev pub Agrees : Journal → Order → Type 0
@@ -79,51 +78,59 @@ module _ (net : Net) (ok : netRule net ≡ true) (j : Journal) (H : Held net j) 
     abbrev new : LiveLine
     new = newLine net j t
 
-    abbrev R′ : Order
-    R′ = firedOrder (petriNet net) (marksOf net (j .marking)) (keysOf j) R t
+    abbrev j′ : Journal
+    j′ = fireReply net j t .journal
 
-    fired-order-to : (u : Transition) (i : ℕ) (v : Transition) (k : ℕ) → R′ u i v k → laterWithCommon (fireReply net j t .journal) u i v k
+    abbrev R′ : Order
+    R′ = firedOrder (petriNet net) (marksOf net (j .marking)) (keysOf (fireReply net j t .journal)) R t
+
+    -- the new key is the highest
+    newest : Max (keysOf j′ t) (new .key .0)
+    newest = ((new, mem-last (j .lines) new, refl, refl), λ i (l, m, _, q). below i l q (mem-snoc (j .lines) new l m))
+      where
+        below : (i : ℕ) (l : LiveLine) → l .key .0 ≡ i → Mem l (j .lines) ⊎ (l ≡ newLine net j t) → i ≤ newLine net j t .key .0
+        below i l q (inl m) = let a = mem-highest (j .lines) l m in omega arith
+        below i l q (inr d) = let a = key-of d in omega arith
+
+    fired-order-to : (u : Transition) (i : ℕ) (v : Transition) (k : ℕ) → R′ u i v k → laterWithCommon j′ u i v k
     fired-order-to u i v k (inl r) =
         let (l, h, a, b, p, q, p′, q′, lt, c) = A u i v k .0 r in
         (l, h, mem-left (j .lines) (new ∷ []) l a, mem-left (j .lines) (new ∷ []) h b, p, q, p′, q′, lt, c)
-    fired-order-to u i v k (inr (same, (o, o′, x, lt, uses))) =
-        let top : k ≡ suc (highestLive (j .lines)) = one-max (firedKeys (petriNet net) (keysOf j) t t) k (suc (highestLive (j .lines))) x (fired-newest net ok j H t) in
-        go top o′
+    fired-order-to u i v k (inr (same, (o, (l, m, p, q), x, lt, uses))) =
+        go (one-max (keysOf j′ t) k (new .key .0) x newest) (mem-snoc (j .lines) new l m)
       where
-        go : k ≡ suc (highestLive (j .lines)) → firedKeys (petriNet net) (keysOf j) t u i → laterWithCommon (fireReply net j t .journal) u i v k
-        go top (inl (l, m, p, q)) = (
+        go : k ≡ newLine net j t .key .0 → Mem l (j .lines) ⊎ (l ≡ newLine net j t) → laterWithCommon (fireReply net j t .journal) u i v k
+        go top (inl n) = (
           l,
           new,
-          mem-left (j .lines) (new ∷ []) l m,
+          m,
           mem-last (j .lines) new,
           p,
           q,
           sym same,
           sym top,
           lt,
-          uses-common t e l m (subst (λ (w : Transition). Uses (petriNet net) (marksOf net (j .marking)) t w) (sym p) uses),
+          uses-common t e l n (subst (λ (w : Transition). Uses (petriNet net) (marksOf net (j .marking)) t w) (sym p) uses),
         )
-        go top (inr (_, n, y, q)) =
-            let d : n ≡ highestLive (j .lines) = one-max _ n (highestLive (j .lines)) y (max-keys net ok j H) in
-            absurd (let z : ⊥ = omega arith in z)
+        go top (inr d) = let a = key-of d in absurd (let z : ⊥ = omega arith in z)
 
-    fired-order-from : (u : Transition) (i : ℕ) (v : Transition) (k : ℕ) → laterWithCommon (fireReply net j t .journal) u i v k → R′ u i v k
+    fired-order-from : (u : Transition) (i : ℕ) (v : Transition) (k : ℕ) → laterWithCommon j′ u i v k → R′ u i v k
     fired-order-from u i v k (l, h, a, b, p, q, p′, q′, lt, c) = go (mem-snoc (j .lines) new l a) (mem-snoc (j .lines) new h b)
       where
-        go : Mem l (j .lines) ⊎ (l ≡ new) → Mem h (j .lines) ⊎ (h ≡ new) → R′ u i v k
+        go : Mem l (j .lines) ⊎ (l ≡ newLine net j t) → Mem h (j .lines) ⊎ (h ≡ newLine net j t) → firedOrder (petriNet net) (marksOf net (j .marking)) (keysOf (fireReply net j t .journal)) R t u i v k
         go (inl m) (inl n) = inl (A u i v k .1 (l, h, m, n, p, q, p′, q′, lt, c))
         go (inr d) (inl n) = let x = mem-highest (j .lines) h n in let y = key-of d in absurd (let z : ⊥ = omega arith in z)
         go (inr d) (inr f) = let x = key-of d in let y = key-of f in absurd (let z : ⊥ = omega arith in z)
         go (inl m) (inr f) =
-            let top : suc (highestLive (j .lines)) ≡ k = sym (key-of f) ∙ q′ in
-            let (o, low) = subst (Max (firedKeys (petriNet net) (keysOf j) t t)) top (fired-newest net ok j H t) in
+            let top : new .key .0 ≡ k = sym (key-of f) ∙ q′ in
+            let (o, low) = subst (Max (keysOf j′ t)) top newest in
             let c′ : Dependent inSet (l .moved) (new .moved) = subst (λ (x : LiveLine). Dependent inSet (l .moved) (x .moved)) f c in
             inr (
               sym p′ ∙ ap (λ (x : LiveLine). x .transition) f,
-              (o, inl (l, m, p, q), (o, low), lt, subst (λ (w : Transition). Uses (petriNet net) (marksOf net (j .marking)) t w) p (common-uses t e l m c′)),
+              (o, (l, a, p, q), (o, low), lt, subst (λ (w : Transition). Uses (petriNet net) (marksOf net (j .marking)) t w) p (common-uses t e l m c′)),
             )
 
-    pub fired-order : Agrees (fireReply net j t .journal) (firedOrder (petriNet net) (marksOf net (j .marking)) (keysOf j) R t)
+    pub fired-order : Agrees (fireReply net j t .journal) (firedOrder (petriNet net) (marksOf net (j .marking)) (keysOf (fireReply net j t .journal)) R t)
     fired-order u i v k = (fired-order-to u i v k, fired-order-from u i v k)
 
   -- ---- Definition 12
@@ -156,19 +163,20 @@ module _ (net : Net) (ok : netRule net ≡ true) (j : Journal) (H : Held net j) 
 -- ---- every command, and a list of commands
 
 module _ (net : Net) (ok : netRule net ≡ true) where
-  act-order : (j : Journal) → Held net j → (R : Order) → Agrees j R → (c : List ℕ) → Agrees (act net j c .journal) (orderStep net j c (act net j c .answer) R)
-  act-order j H R A c = pick-case (λ (y : Reply). Agrees (y .journal) (orderStep net j c (y .answer) R)) (clear (checks net j c)) _ _
+  act-order : (j : Journal) → Held net j → (R : Order) → Agrees j R → (c : List ℕ) → Agrees (act net j c .journal) (orderStep net j c (act net j c .journal) (act net j c .answer) R)
+  act-order j H R A c = pick-case (λ (y : Reply). Agrees (y .journal) (orderStep net j c (y .journal) (y .answer) R)) (clear (checks net j c)) _ _
       (λ e. by-kind (eqb (kindOf c) 1) (checks-kind net j c e)) (λ _. A)
     where
       by-kind : (b : Bool) → clear (pick b (fireChecks net j (transitionNamed c)) (undoChecks j (keyNamed j c))) ≡ true
-          → Agrees (pick b (fireReply net j (transitionNamed c)) (undoReply net j (keyNamed j c)) .journal) (orderStep net j c (pick b (fireReply net j (transitionNamed c)) (undoReply net j (keyNamed j c)) .answer) R)
+          → Agrees (pick b (fireReply net j (transitionNamed c)) (undoReply net j (keyNamed j c)) .journal)
+          (orderStep net j c (pick b (fireReply net j (transitionNamed c)) (undoReply net j (keyNamed j c)) .journal) (pick b (fireReply net j (transitionNamed c)) (undoReply net j (keyNamed j c)) .answer) R)
       by-kind true e = fired-order net ok j H R A (transitionNamed c)
           (and-l _ (clear (spaceChecks j)) (sym (clear-append (enableChecks net (j .marking) (transitionNamed c)) (spaceChecks j)) ∙ e))
       by-kind false e = reversed-order net ok j H R A (keyNamed j c) e
 
   play-order : (cs : List (List ℕ)) (j : Journal) → Held net j → (R : Order) → Agrees j R → Agrees (play net cs j) (orderAfter net cs j R)
   play-order [] j H R A = A
-  play-order (c ∷ cs) j H R A = play-order cs (act net j c .journal) (act-held net ok j c H) (orderStep net j c (act net j c .answer) R) (act-order j H R A c)
+  play-order (c ∷ cs) j H R A = play-order cs (act net j c .journal) (act-held net ok j c H) (orderStep net j c (act net j c .journal) (act net j c .answer) R) (act-order j H R A c)
 
   pub order-is : (cs : List (List ℕ)) → Agrees (play net cs (begin net)) (orderAfter net cs (begin net) noOrder)
   order-is cs = play-order cs (begin net) (begin-held net ok) noOrder (λ u i t k. ((λ r. absurd r), λ (l, h, m, _, _, _, _, _, _, _). absurd m))

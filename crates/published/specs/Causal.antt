@@ -7,7 +7,6 @@ use Rattle.net.specs.declared.Transition.{Transition}
 use Rattle.published.specs.Sets.{Item, base, Max}
 use Rattle.published.specs.Nets.{PetriNet, Outgoing, Post}
 use Rattle.published.specs.States.{Marks, Keys, Con}
-use Rattle.published.specs.Forward.{firedKeys}
 
 -- Definition 8: (t, k) is a transition occurrence.
 abbrev pub Occurs : Keys → Transition → ℕ → Type 0
@@ -29,9 +28,9 @@ Order = Transition → ℕ → Transition → ℕ → Type 0
 abbrev pub noOrder : Order
 noOrder u j t k = ⊥
 
--- Definition 10, ≺′ after the firing of t; M′ and H′ are those of Definition 5.
+-- Definition 10, ≺′ after the firing of t; M is the marking before it, H′ the history after it (Definition 5's).
 abbrev pub firedOrder : PetriNet → Marks → Keys → Order → Transition → Order
-firedOrder N M H R t u j v k = R u j v k ⊎ ((v ≡ t) × DependsOn N M (firedKeys N H t) t k u j)
+firedOrder N M H′ R t u j v k = R u j v k ⊎ ((v ≡ t) × DependsOn N M H′ t k u j)
 
 -- Definition 11: c-enabled. t has a key; (1) each base and bond on an outgoing arc is in that place; (2) no occurrence
 -- depends on that of t's highest key.
@@ -40,6 +39,6 @@ pub record CausalEnabled (N : PetriNet) (M : Marks) (H : Keys) (R : Order) (t : 
   pub available : (x : ℕ) (i : Item) → Outgoing N t x → N .puts t x i → M x i
   pub unused : (k : ℕ) → Max (H t) k → (u : Transition) (j : ℕ) → Occurs H u j → R t k u j → ⊥
 
--- Definition 12, ≺′ after the reversal of t; M′ and H′ are those of Definition 7.
+-- Definition 12, ≺′ after the reversal of t; H is the history before it. M′ and H′ are Definition 7's.
 abbrev pub reversedOrder : Keys → Order → Transition → Order
 reversedOrder H R t u j v k = R u j v k × (Max (H t) k → ⊥)

@@ -6,3 +6,4 @@ pub mod Forward
 pub mod Backtracking
 pub mod Causal
 pub mod Sheets
+pub mod Claims

@@ -56,16 +56,17 @@ marksOf net s x i = Present net s i × (place s (anchor i) ≡ x)
 abbrev pub keysOf : Journal → Keys
 keysOf j t k = (l : LiveLine) × Mem l (j .lines) × (l .transition ≡ t) × (l .key .0 ≡ k)
 
--- ≺ after one command with its answer: Definition 10 on a firing, Definition 12 on a taking back.
-abbrev pub orderStep : Net → Journal → List ℕ → Answer → Order → Order
-orderStep net j c (fired k) R = firedOrder (petriNet net) (marksOf net (j .marking)) (keysOf j) R (transitionNamed c)
-orderStep net j c (undone k) R = reversedOrder (keysOf j) R (lineOf k (j .lines) .transition)
-orderStep net j c (refused n) R = R
+-- ≺ after one command, by its answer: Definition 10 on a firing, Definition 12 on a taking back. j is the journal before the
+-- command, j′ the journal after it.
+abbrev pub orderStep : Net → Journal → List ℕ → Journal → Answer → Order → Order
+orderStep net j c j′ (fired k) R = firedOrder (petriNet net) (marksOf net (j .marking)) (keysOf j′) R (transitionNamed c)
+orderStep net j c j′ (undone k) R = reversedOrder (keysOf j) R (lineOf k (j .lines) .transition)
+orderStep net j c j′ (refused n) R = R
 
 -- ≺ after a list of commands
 abbrev pub orderAfter : Net → List (List ℕ) → Journal → Order → Order
 orderAfter net [] j R = R
-orderAfter net (c ∷ cs) j R = orderAfter net cs (act net j c .journal) (orderStep net j c (act net j c .answer) R)
+orderAfter net (c ∷ cs) j R = orderAfter net cs (act net j c .journal) (orderStep net j c (act net j c .journal) (act net j c .answer) R)
 
 -- Document 01's dependence, as refusal 20 has it: two live firings, the second of higher key, that moved a common base.
 abbrev pub laterWithCommon : Journal → Order
