@@ -1,9 +1,9 @@
 -- Where a place is not both incoming and outgoing, Definitions 5 and 7 as they stand here are the chapter's three cases, for
 -- every net and marking. Assumes nothing.
-use mathlib.Core.Logic.{_⊎_, inl, inr}
+use mathlib.Core.Logic.{inl, inr}
 use Prim.Native.Nat.{ℕ}
 use Rattle.net.specs.declared.Transition.{Transition}
-use Rattle.published.specs.Sets.{Item, base, bond, minus, union}
+use Rattle.published.specs.Sets.{Item, base, minus, union}
 use Rattle.published.specs.Nets.{PetriNet, Incoming, Outgoing}
 use Rattle.published.specs.States.{Marks}
 use Rattle.published.specs.Forward.{leaves, comes, firedMarks}

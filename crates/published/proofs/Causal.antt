@@ -2,21 +2,19 @@
 -- marking. Assumes that the net meets the sheet's rules, and a journal that commands keep.
 use mathlib.Core.Path.{_≡_, refl, sym, _∙_, ap, subst}
 use mathlib.Core.Logic.{_⊎_, inl, inr}
-use mathlib.Core.Bool.{Bool, true, false, not}
-use mathlib.Core.List.{List, [], _∷_, _++_}
+use mathlib.Core.Bool.{Bool, true, false}
+use mathlib.Core.List.{List, _∷_, _++_}
 use Prim.Native.Nat.{ℕ, _<_, _≤_}
 use native.Mathlib.Omega.{arith}
 use Rattle.causal.specs.Lists.{Mem}
 use Rattle.causal.specs.Reorderings.{Dependent}
-use Rattle.causal.proofs.Tests.{test, both}
-use Rattle.net.specs.Net.{Arcs, Marking, Net, hasBond, place, arcsOf}
+use Rattle.causal.proofs.Tests.{both}
+use Rattle.net.specs.Net.{Marking, Net, hasBond, place, arcsOf}
 use Rattle.net.specs.Rules.{netRule}
 use Rattle.net.specs.Connection.{here}
-use Rattle.net.specs.Marking.{Good}
 use Rattle.net.specs.Firing.{inSet, fire, undo}
 use Rattle.net.specs.Checks.{clear}
 use Rattle.net.specs.Journal.{LiveLine, Journal, key, highestLive, isLive, lineOf, builtOn, undoChecks, undoReply}
-use Rattle.net.specs.declared.Bond.{Bond}
 use Rattle.net.specs.declared.Entry.{Entry}
 use Rattle.net.specs.declared.Key.{Key}
 use Rattle.net.specs.declared.Transition.{Transition}
@@ -24,7 +22,7 @@ use Rattle.net.proofs.Tests.{fails, or-l}
 use Rattle.net.proofs.Moves.{Fit, view, seen-place, seen-first, entry-moves}
 use Rattle.net.proofs.Fire.{has-fire}
 use Rattle.net.proofs.Rules.{fits}
-use Rattle.net.proofs.Keys.{Up, mem-highest, up-after, live-split, independent-later, builtOn-after}
+use Rattle.net.proofs.Keys.{mem-highest, up-after, live-split, independent-later, builtOn-after}
 use Rattle.net.proofs.Journal.{Held}
 use Rattle.published.specs.Sets.{Iff, Item, base, bond, Max}
 use Rattle.published.specs.Backtracking.{BacktrackEnabled, reversedMarks}

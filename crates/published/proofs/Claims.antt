@@ -2,8 +2,6 @@
 -- the premises. Assumes nothing.
 use mathlib.Core.Path.{_≡_}
 use mathlib.Core.Bool.{true}
-use mathlib.Core.List.{List}
-use Prim.Native.Nat.{ℕ}
 use Rattle.net.specs.Net.{Net}
 use Rattle.net.specs.Rules.{netRule}
 use Rattle.net.specs.Journal.{Journal, begin, play}

@@ -18,7 +18,7 @@ use Rattle.net.proofs.Connection.{leads-trans, bond-leads}
 use Rattle.net.proofs.Moves as W
 use Rattle.net.proofs.Moves.{Fit}
 use Rattle.published.specs.Sets.{Item, base, bond, Items, Between}
-use Rattle.published.specs.States.{Path, Of, Con}
+use Rattle.published.specs.States.{Path, Con}
 use Rattle.published.specs.Sheets.{anchor, Present, marksOf}
 
 -- ---- larger sets

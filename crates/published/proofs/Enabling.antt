@@ -25,7 +25,7 @@ use Rattle.net.proofs.Connection.{connected-leads, leads-connected}
 use Rattle.net.proofs.Rules.{fits}
 use Rattle.net.proofs.Journal.{enabled-fires}
 use Rattle.published.specs.Sets.{Iff, base, bond}
-use Rattle.published.specs.Nets.{PetriNet, Incoming, Outgoing}
+use Rattle.published.specs.Nets.{Incoming, Outgoing}
 use Rattle.published.specs.States.{Con}
 use Rattle.published.specs.Forward.{Enabled}
 use Rattle.published.specs.Sheets.{petriNet, marksOf}

@@ -1,8 +1,8 @@
 -- A firing that none of 12 to 16 refuses gives exactly the marking of Definition 5, bases and bonds, place by place.
 -- Assumes that the net meets the sheet's rules, and a good marking.
-use mathlib.Core.Path.{_≡_, refl, sym, _∙_, ap}
+use mathlib.Core.Path.{_≡_, refl, sym, _∙_}
 use mathlib.Core.Logic.{_⊎_, inl, inr}
-use mathlib.Core.Bool.{Bool, true, false}
+use mathlib.Core.Bool.{true, false}
 use mathlib.Core.List.{List}
 use Prim.Native.Nat.{ℕ, _<_}
 use lib.ListN.{length}
@@ -25,7 +25,7 @@ use Rattle.net.proofs.Fire.{place-fire, has-fire}
 use Rattle.net.proofs.Rules.{fits}
 use Rattle.net.proofs.Journal.{enabled-fires}
 use Rattle.published.specs.Sets.{Iff, Item, base, bond}
-use Rattle.published.specs.Forward.{leaves, firedMarks}
+use Rattle.published.specs.Forward.{firedMarks}
 use Rattle.published.specs.Sheets.{anchor, Present, petriNet, marksOf}
 use Rattle.published.proofs.Components.{leads-place, con-leads, leads-con}
 use Rattle.published.proofs.Enabling.{at-home, one-way}

@@ -1,32 +1,26 @@
 -- A firing that 20 does not refuse is its transition's latest, and taking it back gives exactly the history of Definition 7.
 -- Assumes that the net meets the sheet's rules, and a journal that commands keep.
 use mathlib.Core.Path.{_≡_, refl, sym, _∙_, ap, subst}
-use mathlib.Core.Logic.{_⊎_, inl, inr}
 use mathlib.Core.Bool.{true, false}
-use mathlib.Core.List.{List, _++_, _∷_, []}
-use Prim.Native.Nat.{ℕ, suc, _<_, _≤_}
+use Prim.Native.Nat.{ℕ, _<_, _≤_}
 use native.Mathlib.Omega.{arith}
-use lib.Dec.{leb, ltb}
+use lib.Dec.{ltb}
 use borrow.Author.Tests.{not-false, ltb-true, ltb-false}
 use Rattle.causal.specs.Lists.{Mem}
 use Rattle.causal.proofs.Tests.{test, both}
 use Rattle.net.specs.Net.{Net, arcsOf}
 use Rattle.net.specs.Rules.{netRule}
-use Rattle.net.specs.Firing.{inSet}
 use Rattle.net.specs.Checks.{clear}
-use Rattle.net.specs.Journal.{LiveLine, Journal, highestLive, isLive, lineOf, builtOn, undoChecks, newLine, fireReply, undoReply}
-use Rattle.net.specs.declared.Entry.{Entry}
+use Rattle.net.specs.Journal.{LiveLine, Journal, isLive, lineOf, builtOn, undoChecks, undoReply}
 use Rattle.net.specs.declared.Key.{Key}
 use Rattle.net.specs.declared.Transition.{Transition}
 use Rattle.net.proofs.Checks.{clear-off}
-use Rattle.net.proofs.Keys.{mem-highest, mem-snoc}
 use Rattle.net.proofs.Journal.{Held}
 use Rattle.published.specs.Sets.{Iff, Max}
-use Rattle.published.specs.Forward.{keysAndZero, firedKeys}
 use Rattle.published.specs.Backtracking.{reversedKeys}
-use Rattle.published.specs.Sheets.{petriNet, keysOf}
+use Rattle.published.specs.Sheets.{keysOf}
 use Rattle.published.proofs.Arcs.{some-entry}
-use Rattle.published.proofs.Lines.{key-of, mem-left, mem-last, one-line, live-line, highest-is, mem-without, without-mem, builtOn-i}
+use Rattle.published.proofs.Lines.{one-line, live-line, mem-without, without-mem, builtOn-i}
 use Rattle.published.proofs.Sessions.{line-listed, entry-in-line}
 
 -- a set has one highest number

@@ -4,7 +4,7 @@ use mathlib.Core.Path.{_≡_, refl, sym, _∙_, ap}
 use mathlib.Core.Logic.{_⊎_, inl, inr}
 use mathlib.Core.Bool.{Bool, true, false, not, _&&_, _||_}
 use mathlib.Core.List.{List, [], _∷_, _++_}
-use Prim.Native.Nat.{ℕ, zero, suc, _<_, _≤_}
+use Prim.Native.Nat.{ℕ, zero, suc, _<_}
 use native.Mathlib.Omega.{arith}
 use lib.Dec.{eqb, ltb, leb}
 use borrow.Author.Tests.{eqb-true, eq-eqb, ne-eqb, ltb-true, lt-ltb, leb-true, leb-false}
@@ -16,7 +16,7 @@ use Rattle.net.specs.Firing.{inSet}
 use Rattle.net.specs.Journal.{LiveLine, key, sameKey, highestLive, isLive, lineOf, without, common, builtOn}
 use Rattle.net.specs.declared.Key.{Key}
 use Rattle.net.proofs.Tests.{and-l, and-r, and-i, or-e, any-e, any-i}
-use Rattle.net.proofs.Keys.{Up, mem-highest, live-split, common-i}
+use Rattle.net.proofs.Keys.{Up, common-i}
 
 pub key-of : {l h : LiveLine} → l ≡ h → l .key .0 ≡ h .key .0
 key-of e = ap (λ (x : LiveLine). x .key .0) e

@@ -1,24 +1,23 @@
 -- The net of a sheet is one of Definition 2, and well-formed (Definition 3); a good marking is a marking, with each base in
 -- exactly one place. Assumes that the net meets the sheet's rules.
 use mathlib.Core.Path.{_≡_, refl, sym, _∙_, ap}
-use mathlib.Core.Logic.{_⊎_, inl, inr}
 use mathlib.Core.Bool.{true}
 use Prim.Native.Nat.{ℕ, _<_}
 use native.Mathlib.Omega.{arith}
 use lib.ListN.{length}
 use Rattle.causal.specs.Lists.{Mem}
-use Rattle.net.specs.Net.{Arcs, Marking, Net, hasBond, place, arcsOf}
+use Rattle.net.specs.Net.{Arcs, Marking, Net, place, arcsOf}
 use Rattle.net.specs.Rules.{netRule}
 use Rattle.net.specs.Marking.{Good}
 use Rattle.net.specs.declared.Bond.{Bond}
 use Rattle.net.specs.declared.Entry.{Entry}
 use Rattle.net.specs.declared.Transition.{Transition}
-use Rattle.net.proofs.Moves.{Joins, Fit}
+use Rattle.net.proofs.Moves.{Joins}
 use Rattle.net.proofs.Rules.{fits}
 use Rattle.published.specs.Sets.{Item, base, bond}
 use Rattle.published.specs.Nets.{Known, Definition2, Post, WellFormed}
 use Rattle.published.specs.States.{IsMarking, EachInOnePlace}
-use Rattle.published.specs.Sheets.{labelAt, petriNet, marksOf}
+use Rattle.published.specs.Sheets.{petriNet, marksOf}
 use Rattle.published.proofs.Arcs.{Exact, exact, kept}
 
 -- ---- the arcs of one transition

@@ -2,23 +2,21 @@
 -- moved base". Assumes that the net meets the sheet's rules.
 use mathlib.Core.Path.{_≡_, refl, sym, _∙_, ap, subst}
 use mathlib.Core.Logic.{_⊎_, inl, inr}
-use mathlib.Core.Bool.{Bool, true, false, _&&_}
-use mathlib.Core.List.{List, [], _∷_, _++_}
-use Prim.Native.Nat.{ℕ, suc, _<_, _≤_}
+use mathlib.Core.Bool.{Bool, true, false}
+use mathlib.Core.List.{List, [], _∷_}
+use Prim.Native.Nat.{ℕ, _<_, _≤_}
 use native.Mathlib.Omega.{arith}
 use lib.Dec.{eqb}
 use Rattle.causal.specs.Lists.{Mem}
 use Rattle.causal.specs.Reorderings.{Dependent}
 use Rattle.causal.proofs.Tests.{both}
 use Rattle.net.specs.Tests.{pick}
-use Rattle.net.specs.Net.{Arcs, Marking, Net, arcsOf}
+use Rattle.net.specs.Net.{Net, arcsOf}
 use Rattle.net.specs.Rules.{netRule}
 use Rattle.net.specs.Connection.{Leads}
-use Rattle.net.specs.Marking.{Good}
 use Rattle.net.specs.Firing.{inSet, moves}
 use Rattle.net.specs.Checks.{clear}
-use Rattle.net.specs.Journal.{LiveLine, Journal, Reply, highestLive, lineOf, builtOn, kindOf, enableChecks, spaceChecks, fireChecks, undoChecks, checks, transitionNamed, keyNamed, newLine, fireReply, undoReply, begin, act, play}
-use Rattle.net.specs.declared.Entry.{Entry}
+use Rattle.net.specs.Journal.{LiveLine, Journal, Reply, lineOf, builtOn, kindOf, enableChecks, spaceChecks, fireChecks, undoChecks, checks, transitionNamed, keyNamed, newLine, fireReply, undoReply, begin, act, play}
 use Rattle.net.specs.declared.Key.{Key}
 use Rattle.net.specs.declared.Transition.{Transition}
 use Rattle.net.proofs.Tests.{and-l, pick-case}
@@ -28,11 +26,9 @@ use Rattle.net.proofs.Moves.{mem-moved}
 use Rattle.net.proofs.Rules.{fits}
 use Rattle.net.proofs.Keys.{mem-highest, mem-snoc}
 use Rattle.net.proofs.Journal.{Held, enabled-fires, checks-kind, act-held, begin-held}
-use Rattle.published.specs.Sets.{Iff, Item, base, Max}
-use Rattle.published.specs.Nets.{Post}
-use Rattle.published.specs.States.{Con}
-use Rattle.published.specs.Causal.{Uses, DependsOn, Order, noOrder, firedOrder, reversedOrder}
-use Rattle.published.specs.Sheets.{anchor, petriNet, marksOf, keysOf, orderStep, orderAfter, laterWithCommon}
+use Rattle.published.specs.Sets.{Iff, base, Max}
+use Rattle.published.specs.Causal.{Uses, Order, noOrder, firedOrder, reversedOrder}
+use Rattle.published.specs.Sheets.{petriNet, marksOf, keysOf, orderStep, orderAfter, laterWithCommon}
 use Rattle.published.proofs.Components.{con-leads, leads-con}
 use Rattle.published.proofs.Enabling.{at-home}
 use Rattle.published.proofs.Firing.{led-moves, moves-led}

@@ -1,9 +1,8 @@
 -- Taking back gives exactly the marking of Definition 7, bases and bonds, place by place, wherever the moved bases look as
 -- the firing left them. Assumes that the net meets the sheet's rules, and good markings.
-use mathlib.Core.Path.{_≡_, refl, sym, _∙_, ap}
+use mathlib.Core.Path.{_≡_, refl, sym, _∙_}
 use mathlib.Core.Logic.{_⊎_, inl, inr}
-use mathlib.Core.Bool.{Bool, true, false, not, _&&_, _||_}
-use mathlib.Core.List.{List}
+use mathlib.Core.Bool.{Bool, true, false, not, _&&_}
 use Prim.Native.Nat.{ℕ, _<_}
 use lib.ListN.{length}
 use borrow.Author.Tests.{not-true}
@@ -19,7 +18,7 @@ use Rattle.net.specs.Firing.{moves, moved, misplaced, bondAbsent, bondPresent, 
 use Rattle.net.specs.declared.Bond.{Bond}
 use Rattle.net.specs.declared.Entry.{Entry}
 use Rattle.net.specs.declared.Transition.{Transition}
-use Rattle.net.proofs.Tests.{fails, and-l, and-r, and-i, or-e, or-l, or-r}
+use Rattle.net.proofs.Tests.{fails, and-l, and-r, or-e, or-l, or-r}
 use Rattle.net.proofs.Sorted.{has-keep, ascending-keep}
 use Rattle.net.proofs.Bonds.{bond-order}
 use Rattle.net.proofs.Connection.{walk, walk-back}
@@ -28,8 +27,6 @@ use Rattle.net.proofs.Fire.{has-fire}
 use Rattle.net.proofs.Undo.{undo-on, undo-off}
 use Rattle.net.proofs.Rules.{fits}
 use Rattle.published.specs.Sets.{Item, base, bond, minus}
-use Rattle.published.specs.Nets.{Pre, Post}
-use Rattle.published.specs.States.{Con}
 use Rattle.published.specs.Forward.{eff}
 use Rattle.published.specs.Backtracking.{reversedMarks}
 use Rattle.published.specs.Sheets.{anchor, Present, petriNet, marksOf}

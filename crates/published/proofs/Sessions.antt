@@ -3,16 +3,16 @@
 -- Assumes that the net meets the sheet's rules.
 use mathlib.Core.Path.{_≡_, refl, sym, _∙_, ap}
 use mathlib.Core.Logic.{_⊎_, inl, inr}
-use mathlib.Core.Bool.{Bool, true, false, _||_}
+use mathlib.Core.Bool.{Bool, true}
 use mathlib.Core.List.{List, [], _∷_, _++_}
 use Prim.Native.Nat.{ℕ, _<_}
 use lib.ListN.{length}
 use Rattle.causal.specs.Lists.{Mem}
 use Rattle.causal.specs.Reorderings.{IndependentOfAll}
-use Rattle.causal.specs.Runs.{Run, AgreeOn}
+use Rattle.causal.specs.Runs.{Run}
 use Rattle.causal.proofs.Lists.{mem-split}
 use Rattle.causal.proofs.Runs.{run-split, shift, run-good}
-use Rattle.net.specs.Net.{Arcs, Marking, Net, hasBond, arcsOf}
+use Rattle.net.specs.Net.{Marking, Net, hasBond, arcsOf}
 use Rattle.net.specs.Net as N
 use Rattle.net.specs.Rules.{netRule}
 use Rattle.net.specs.Connection.{bonded, Leads, here, along}
@@ -23,7 +23,7 @@ use Rattle.net.specs.declared.Bond.{Bond}
 use Rattle.net.specs.declared.Entry.{Entry}
 use Rattle.net.specs.declared.Transition.{Transition}
 use Rattle.net.proofs.Tests.{or-e, or-l, or-r}
-use Rattle.net.proofs.Moves.{Fit, view, entry-moves, mem-moved}
+use Rattle.net.proofs.Moves.{view, entry-moves, mem-moved}
 use Rattle.net.proofs.Fire.{has-fire}
 use Rattle.net.proofs.Laws.{laws}
 use Rattle.net.proofs.Rules.{fits, start-good}

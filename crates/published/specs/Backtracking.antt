@@ -1,7 +1,6 @@
 -- Backtracking: Definitions 6 and 7 (004, section 3.2.2).
 -- Definitions only. Definition 7's marking and history are two definitions.
 use mathlib.Core.Path.{_≡_}
-use mathlib.Core.Logic.{_⊎_}
 use Prim.Native.Nat.{ℕ, _≤_}
 use Rattle.net.specs.declared.Transition.{Transition}
 use Rattle.published.specs.Sets.{base, union, minus, Max}
