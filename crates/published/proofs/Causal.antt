@@ -87,20 +87,6 @@ module _ (net : Net) (ok : netRule net ≡ true) (j : Journal) (H : Held net j) 
   -- ---- Definition 11
 
   module _ (R : Order) (A : Agrees j R) where
-    undo-enabled : (k : Key) → clear (undoChecks j k) ≡ true → CausalEnabled (petriNet net) (marksOf net (j .marking)) (keysOf j) R (lineOf k (j .lines) .transition)
-    undo-enabled k e = record {
-      occurs = (k .0, undo-latest net ok j H k e .0);
-      available = λ x i _ u. all-there (lineOf k (j .lines)) (left-alone k e) x i u;
-      unused = λ n x u i _ r. no-later n x u i r;
-    }
-      where
-        no-later : (n : ℕ) → Max (keysOf j (lineOf k (j .lines) .transition)) n → (u : Transition) (i : ℕ) → R (lineOf k (j .lines) .transition) n u i → ⊥
-        no-later n x u i r =
-            let (l, h, a, b, p, q, p′, q′, lt, c) = A (lineOf k (j .lines) .transition) n u i .0 r in
-            let d : n ≡ k .0 = one-max (keysOf j (lineOf k (j .lines) .transition)) n (k .0) x (undo-latest net ok j H k e) in
-            let same : l ≡ lineOf k (j .lines) = one-line (j .lines) (H .up) l (lineOf k (j .lines)) a (undo-mem net ok j H k e) (q ∙ d ∙ sym (undo-key net ok j H k e)) in
-            both (builtOn (j .lines) (lineOf k (j .lines))) (subst (λ (y : LiveLine). builtOn (j .lines) y ≡ true) same (builtOn-i (j .lines) l h b (rw (q, q′) lt) c)) (undo-free net ok j H k e)
-
     enabled-undo : (k : Key) (t : Transition) → CausalEnabled (petriNet net) (marksOf net (j .marking)) (keysOf j) R t → Max (keysOf j t) (k .0)
         → (clear (undoChecks j k) ≡ true) × (lineOf k (j .lines) .transition ≡ t)
     enabled-undo k t D ((l, m, p, q), top) =
@@ -114,6 +100,20 @@ module _ (net : Net) (ok : netRule net ≡ true) (j : Journal) (H : Held net j) 
         no-later (h, n, lt, c) =
             D .unused (k .0) ((l, m, p, q), top) (h .transition) (h .key .0) (h, n, refl, refl)
             (A t (k .0) (h .transition) (h .key .0) .1 (l, h, m, n, p, q, refl, refl, rw (← q) lt, c))
+
+    undo-enabled : (k : Key) → clear (undoChecks j k) ≡ true → CausalEnabled (petriNet net) (marksOf net (j .marking)) (keysOf j) R (lineOf k (j .lines) .transition)
+    undo-enabled k e = record {
+      occurs = (k .0, undo-latest net ok j H k e .0);
+      available = λ x i _ u. all-there (lineOf k (j .lines)) (left-alone k e) x i u;
+      unused = λ n x u i _ r. no-later n x u i r;
+    }
+      where
+        no-later : (n : ℕ) → Max (keysOf j (lineOf k (j .lines) .transition)) n → (u : Transition) (i : ℕ) → R (lineOf k (j .lines) .transition) n u i → ⊥
+        no-later n x u i r =
+            let (l, h, a, b, p, q, p′, q′, lt, c) = A (lineOf k (j .lines) .transition) n u i .0 r in
+            let d : n ≡ k .0 = one-max (keysOf j (lineOf k (j .lines) .transition)) n (k .0) x (undo-latest net ok j H k e) in
+            let same : l ≡ lineOf k (j .lines) = one-line (j .lines) (H .up) l (lineOf k (j .lines)) a (undo-mem net ok j H k e) (q ∙ d ∙ sym (undo-key net ok j H k e)) in
+            both (builtOn (j .lines) (lineOf k (j .lines))) (subst (λ (y : LiveLine). builtOn (j .lines) y ≡ true) same (builtOn-i (j .lines) l h b (rw (q, q′) lt) c)) (undo-free net ok j H k e)
 
     pub undo-iff : (k : Key) (t : Transition) → Iff
         ((clear (undoChecks j k) ≡ true) × (lineOf k (j .lines) .transition ≡ t))

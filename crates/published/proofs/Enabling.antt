@@ -52,43 +52,7 @@ module _ (net : Net) (ok : netRule net ≡ true) (s : Marking) (G : Good net s) 
   pub entry-outgoing : (e : Entry) → Mem e (arcsOf net t .entries) → Outgoing (petriNet net) t (e .to)
   entry-outgoing e m = (fits net ok t h .to e m, base (e .base), (tt, e, m, refl, refl))
 
-  -- ---- from the checks to Definition 4
-
-  module _ (r13 : misplaced (arcsOf net t) s ≡ false) (r14 : bondAbsent (arcsOf net t) s ≡ false) (r15 : bondPresent (arcsOf net t) s ≡ false)
-      (r16 : tornApart (arcsOf net t) s ≡ false) where
-    has-base : (a x : ℕ) → petriNet net .takes x t (base a) → marksOf net s x (base a)
-    has-base a x (u, e, m, b, q) = rw (← b) (fits net ok t h .bases e m, at-home (arcsOf net t) s r13 e m ∙ q)
-
-    has-bond : (β : Bond) (x : ℕ) → petriNet net .takes x t (bond β) → marksOf net s x (bond β)
-    has-bond β x (u, e, m, b, q) = (
-      not-false (hasBond β (s .bonds)) (any-no (λ (c : Bond). not (hasBond c (s .bonds))) (arcsOf net t .inBonds) r14 β (has-mem (arcsOf net t .inBonds) β u)),
-      ap (place s) (sym b) ∙ at-home (arcsOf net t) s r13 e m ∙ q,
-    )
-
-    kept-together : (a b y z : ℕ) → petriNet net .puts t y (base a) → petriNet net .puts t z (base b) → (x : ℕ) → Con a (marksOf net s x) (base b) → y ≡ z
-    kept-together a b y z (_, e, m, p, q) (_, d, n, r, w) x c =
-        let (_, _, _, l) = con-leads net s G x a (base b) c in
-        sym q ∙ one-way (arcsOf net t) s r16 e d m n (rw (p, r) l) ∙ w
-
-    in-bond : (β : Bond) (x y : ℕ) → petriNet net .puts t x (bond β) → marksOf net s y (bond β) → petriNet net .takes y t (bond β)
-    in-bond β x y (u, e, m, b, q) (k, r) = (
-      test (hasBond β (arcsOf net t .inBonds)) (λ i. i) (λ i. both (not (hasBond β (arcsOf net t .inBonds)) && hasBond β (s .bonds)) (rw (i, k))
-          (any-no (λ (c : Bond). not (hasBond c (arcsOf net t .inBonds)) && hasBond c (s .bonds)) (arcsOf net t .outBonds) r15 β (has-mem (arcsOf net t .outBonds) β u))),
-      e,
-      m,
-      b,
-      sym (at-home (arcsOf net t) s r13 e m) ∙ ap (place s) b ∙ r,
-    )
-
-    checks-enabled : Enabled (petriNet net) (marksOf net s) t
-    checks-enabled = record {
-      bases = λ a x _ k. has-base a x k;
-      bonds = λ β x _ k. has-bond β x k;
-      apart = λ a b y z k l ne x _ c. ne (kept-together a b y z k l x c);
-      fresh = λ β x y _ k _ m. in-bond β x y k m;
-    }
-
-  -- ---- and back
+  -- ---- from Definition 4 to the checks
 
   module _ (D : Enabled (petriNet net) (marksOf net s) t) where
     home : (e : Entry) → Mem e (arcsOf net t .entries) → place s (e .base) ≡ e .from
@@ -127,6 +91,42 @@ module _ (net : Net) (ok : netRule net ≡ true) (s : Marking) (G : Good net s) 
         D .apart (e .base) (d .base) (e .to) (d .to) (tt, e, m, refl, refl) (tt, d, n, refl, refl)
         (λ r. both (eqb (e .to) (d .to)) (eq-eqb (e .to) (d .to) r) (not-true (eqb (e .to) (d .to)) (and-r (connected (s .bonds) (e .base) (d .base)) (not (eqb (e .to) (d .to))) q)))
         (e .from) (entry-incoming e m) (leads-con net s G (e .from) (e .base) (base (d .base)) (F .bases e m) (home e m) (F .bases d n) l))
+
+  -- ---- and back
+
+  module _ (r13 : misplaced (arcsOf net t) s ≡ false) (r14 : bondAbsent (arcsOf net t) s ≡ false) (r15 : bondPresent (arcsOf net t) s ≡ false)
+      (r16 : tornApart (arcsOf net t) s ≡ false) where
+    has-base : (a x : ℕ) → petriNet net .takes x t (base a) → marksOf net s x (base a)
+    has-base a x (u, e, m, b, q) = rw (← b) (fits net ok t h .bases e m, at-home (arcsOf net t) s r13 e m ∙ q)
+
+    has-bond : (β : Bond) (x : ℕ) → petriNet net .takes x t (bond β) → marksOf net s x (bond β)
+    has-bond β x (u, e, m, b, q) = (
+      not-false (hasBond β (s .bonds)) (any-no (λ (c : Bond). not (hasBond c (s .bonds))) (arcsOf net t .inBonds) r14 β (has-mem (arcsOf net t .inBonds) β u)),
+      ap (place s) (sym b) ∙ at-home (arcsOf net t) s r13 e m ∙ q,
+    )
+
+    kept-together : (a b y z : ℕ) → petriNet net .puts t y (base a) → petriNet net .puts t z (base b) → (x : ℕ) → Con a (marksOf net s x) (base b) → y ≡ z
+    kept-together a b y z (_, e, m, p, q) (_, d, n, r, w) x c =
+        let (_, _, _, l) = con-leads net s G x a (base b) c in
+        sym q ∙ one-way (arcsOf net t) s r16 e d m n (rw (p, r) l) ∙ w
+
+    in-bond : (β : Bond) (x y : ℕ) → petriNet net .puts t x (bond β) → marksOf net s y (bond β) → petriNet net .takes y t (bond β)
+    in-bond β x y (u, e, m, b, q) (k, r) = (
+      test (hasBond β (arcsOf net t .inBonds)) (λ i. i) (λ i. both (not (hasBond β (arcsOf net t .inBonds)) && hasBond β (s .bonds)) (rw (i, k))
+          (any-no (λ (c : Bond). not (hasBond c (arcsOf net t .inBonds)) && hasBond c (s .bonds)) (arcsOf net t .outBonds) r15 β (has-mem (arcsOf net t .outBonds) β u))),
+      e,
+      m,
+      b,
+      sym (at-home (arcsOf net t) s r13 e m) ∙ ap (place s) b ∙ r,
+    )
+
+    checks-enabled : Enabled (petriNet net) (marksOf net s) t
+    checks-enabled = record {
+      bases = λ a x _ k. has-base a x k;
+      bonds = λ β x _ k. has-bond β x k;
+      apart = λ a b y z k l ne x _ c. ne (kept-together a b y z k l x c);
+      fresh = λ β x y _ k _ m. in-bond β x y k m;
+    }
 
 module _ (net : Net) (ok : netRule net ≡ true) (s : Marking) (G : Good net s) (t : Transition) where
   pub enabled-iff : Iff (clear (enableChecks net s t) ≡ true) (petriNet net .isTransition t × Enabled (petriNet net) (marksOf net s) t)

@@ -47,12 +47,6 @@ module _ (net : Net) (ok : netRule net ≡ true) (j : Journal) (H : Held net j) 
     new-moves : (p : ℕ) → inSet (newLine net j t .moved) p ≡ moves (j .marking .bonds) (arcsOf net t .entries) p
     new-moves p = mem-moved net (j .marking) (good-now net ok j H) (arcsOf net t) (fits net ok t (enabled-fires net (j .marking) t e .listed)) p
 
-    pub uses-common : Uses (petriNet net) (marksOf net (j .marking)) t (l .transition) → Dependent inSet (l .moved) (newLine net j t .moved)
-    uses-common (a, x, i, (_, d, n, b, _), c, (y, _, (_, f, o, q, _))) =
-        let (_, _, _, g) = con-leads net (j .marking) (good-now net ok j H) x a i c in
-        let g₁ : Leads (j .marking .bonds) (d .base) (f .base) = rw (b, q) g in
-        (f .base, entry-in-line net ok j H l m f o, new-moves (f .base) ∙ led-moves (arcsOf net t) (j .marking .bonds) d n (f .base) g₁)
-
     pub common-uses : Dependent inSet (l .moved) (newLine net j t .moved) → Uses (petriNet net) (marksOf net (j .marking)) t (l .transition)
     common-uses (p, u, v) =
         let F = fits net ok t (enabled-fires net (j .marking) t e .listed) in
@@ -67,6 +61,12 @@ module _ (net : Net) (ok : netRule net ≡ true) (j : Journal) (H : Held net j) 
               (F′ .bases f o) (leads-trans g (leads-sym g′)),
           (f .to, F′ .to f o, (tt, f, o, refl, refl)),
         )
+
+    pub uses-common : Uses (petriNet net) (marksOf net (j .marking)) t (l .transition) → Dependent inSet (l .moved) (newLine net j t .moved)
+    uses-common (a, x, i, (_, d, n, b, _), c, (y, _, (_, f, o, q, _))) =
+        let (_, _, _, g) = con-leads net (j .marking) (good-now net ok j H) x a i c in
+        let g₁ : Leads (j .marking .bonds) (d .base) (f .base) = rw (b, q) g in
+        (f .base, entry-in-line net ok j H l m f o, new-moves (f .base) ∙ led-moves (arcsOf net t) (j .marking .bonds) d n (f .base) g₁)
 
   -- ---- Definition 10
 

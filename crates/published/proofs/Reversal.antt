@@ -27,6 +27,7 @@ use Rattle.net.proofs.Fire.{has-fire}
 use Rattle.net.proofs.Undo.{undo-on, undo-off}
 use Rattle.net.proofs.Rules.{fits}
 use Rattle.published.specs.Sets.{Item, base, bond, minus}
+use Rattle.published.specs.Nets.{Pre, Post}
 use Rattle.published.specs.Forward.{eff}
 use Rattle.published.specs.Backtracking.{reversedMarks}
 use Rattle.published.specs.Sheets.{anchor, Present, petriNet, marksOf}
@@ -56,26 +57,33 @@ cut-good net a y H = record {
 }
 
 module _ (net : Net) (ok : netRule net ≡ true) (t : Transition) (h : t .0 < length (net .transitions)) (y : Marking) where
-  new-effect : (β : Bond) → newBond (arcsOf net t) β ≡ true → eff (petriNet net) t (bond β)
-  new-effect β k =
-      let o : hasBond β (arcsOf net t .outBonds) ≡ true = and-l (hasBond β (arcsOf net t .outBonds)) (not (hasBond β (arcsOf net t .inBonds))) k in
-      let F = fits net ok t h in
-      let (e, d, J, _) = F .outs β o in (
-        (e .to, F .to e (J .first), (o, e, J .first, J .lo, refl)),
-        λ (x, _, (i, _, _, _, _)). both (hasBond β (arcsOf net t .inBonds)) i (not-true (hasBond β (arcsOf net t .inBonds)) (and-r (hasBond β (arcsOf net t .outBonds)) (not (hasBond β (arcsOf net t .inBonds))) k)),
-      )
+  in-pre : (β : Bond) → hasBond β (arcsOf net t .inBonds) ≡ true → Pre (petriNet net) t (bond β)
+  in-pre β i = let F = fits net ok t h in let (e, d, J) = F .ins β i in (e .from, F .from e (J .first), (i, e, J .first, J .lo, refl))
 
+  out-post : (β : Bond) → hasBond β (arcsOf net t .outBonds) ≡ true → Post (petriNet net) t (bond β)
+  out-post β o = let F = fits net ok t h in let (e, d, J, _) = F .outs β o in (e .to, F .to e (J .first), (o, e, J .first, J .lo, refl))
+
+  pre-in : (β : Bond) → Pre (petriNet net) t (bond β) → hasBond β (arcsOf net t .inBonds) ≡ true
+  pre-in β (x, _, (i, _, _, _, _)) = i
+
+  post-out : (β : Bond) → Post (petriNet net) t (bond β) → hasBond β (arcsOf net t .outBonds) ≡ true
+  post-out β (x, _, (o, _, _, _, _)) = o
+
+  post-pre : (b : ℕ) → Post (petriNet net) t (base b) → Pre (petriNet net) t (base b)
+  post-pre b (x, _, (_, e, m, q, _)) = (e .from, fits net ok t h .from e m, (tt, e, m, q, refl))
+
+  -- the effect has no in-bond and no base, and every new bond
   effect-new : (β : Bond) → eff (petriNet net) t (bond β) → newBond (arcsOf net t) β ≡ true
-  effect-new β ((x, _, (o, _, _, _, _)), out) = rw (
-    o,
-    fails (hasBond β (arcsOf net t .inBonds)) (λ i.
-        let F = fits net ok t h in
-        let (e, d, J) = F .ins β i in
-        out (e .from, F .from e (J .first), (i, e, J .first, J .lo, refl))),
-  )
+  effect-new β (o, out) = rw (post-out β o, fails (hasBond β (arcsOf net t .inBonds)) (λ i. out (in-pre β i)))
 
-  no-effect : (a : ℕ) → eff (petriNet net) t (base a) → ⊥
-  no-effect a ((x, _, (_, e, m, b, q)), out) = out (e .from, fits net ok t h .from e m, (tt, e, m, b, refl))
+  no-effect : (b : ℕ) → eff (petriNet net) t (base b) → ⊥
+  no-effect b (o, out) = out (post-pre b o)
+
+  new-effect : (β : Bond) → newBond (arcsOf net t) β ≡ true → eff (petriNet net) t (bond β)
+  new-effect β k = (
+    out-post β (and-l (hasBond β (arcsOf net t .outBonds)) (not (hasBond β (arcsOf net t .inBonds))) k),
+    λ q. both (hasBond β (arcsOf net t .inBonds)) (pre-in β q) (not-true (hasBond β (arcsOf net t .inBonds)) (and-r (hasBond β (arcsOf net t .outBonds)) (not (hasBond β (arcsOf net t .inBonds))) k)),
+  )
 
   minus-cut : (x : ℕ) (i : Item) → minus (marksOf net y x) (eff (petriNet net) t) i → marksOf net (cut (arcsOf net t) y) x i
   minus-cut x (base a) ((u, q), out) = (u, q)
