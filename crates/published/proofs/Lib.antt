@@ -13,3 +13,4 @@ pub mod Order
 pub mod Causal
 pub mod Cases
 pub mod Claims
+pub mod Instances
