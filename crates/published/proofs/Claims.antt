@@ -22,7 +22,7 @@ use Rattle.published.proofs.Order.{Agrees, order-is}
 use Rattle.published.proofs.Causal.{reversed-marks, undo-iff, last-iff}
 
 module _ (net : Net) (ok : netRule net ≡ true) where
-  as-published : (j : Journal) → Held net j → (R : Order) → Agrees j R → AsPublished net j R
+  pub as-published : (j : Journal) → Held net j → (R : Order) → Agrees j R → AsPublished net j R
   as-published j H R A =
       let G : Good net (j .marking) = good-now net ok j H in
       record {
@@ -41,6 +41,7 @@ module _ (net : Net) (ok : netRule net ≡ true) where
   published = record {
     definition2 = definition2 net ok;
     wellFormed = well-formed net ok;
+    initial = λ t k. ((λ (l, m, _, _). m), λ x. absurd x);
     states = λ _ cs. as-published (play net cs (begin net)) (played net ok cs) (orderAfter net cs (begin net) noOrder) (order-is net ok cs);
     keys = λ cs. fired-keys net ok (play net cs (begin net)) (played net ok cs);
   }

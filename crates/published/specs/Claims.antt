@@ -11,7 +11,7 @@ use Rattle.net.specs.declared.Key.{Key}
 use Rattle.net.specs.declared.Transition.{Transition}
 use Rattle.published.specs.Sets.{Iff, Item, union, minus, Max}
 use Rattle.published.specs.Nets.{PetriNet, Definition2, Incoming, Outgoing, WellFormed}
-use Rattle.published.specs.States.{Marks, IsMarking, EachInOnePlace}
+use Rattle.published.specs.States.{Marks, IsMarking, EachInOnePlace, noKeys}
 use Rattle.published.specs.Forward.{Enabled, leaves, comes, firedMarks, firedKeys}
 use Rattle.published.specs.Backtracking.{BacktrackEnabled, leavesBack, comesBack, reversedMarks, reversedKeys}
 use Rattle.published.specs.Causal.{Order, noOrder, CausalEnabled}
@@ -68,5 +68,6 @@ KeysAsPublished net j = (t u : Transition) (k : ℕ) → Iff (keysOf (fireReply 
 pub record Published (net : Net) : Type 0 where
   pub definition2 : Definition2 (petriNet net)
   pub wellFormed : WellFormed (petriNet net)
+  pub initial : (t : Transition) (k : ℕ) → Iff (keysOf (begin net) t k) (noKeys t k)
   pub states : WellFormed (petriNet net) → (cs : List (List ℕ)) → AsPublished net (play net cs (begin net)) (orderAfter net cs (begin net) noOrder)
   pub keys : (cs : List (List ℕ)) → KeysAsPublished net (play net cs (begin net))
