@@ -4,22 +4,23 @@ use mathlib.Core.Path.{_≡_, refl, ap}
 use mathlib.Core.Logic.{_⊎_, inl, inr}
 use mathlib.Core.Bool.{Bool, true, _&&_}
 use mathlib.Core.List.{List, [], _∷_}
-use Prim.Native.Nat.{ℕ, _<_}
+use Prim.Native.Nat.{_<_}
 use native.Mathlib.Omega.{arith}
-use lib.Dec.{eqb, ltb}
+use lib.Dec.{ltb}
 use lib.ListN.{length}
-use borrow.Author.Tests.{eqb-true, ltb-true}
+use borrow.Author.Tests.{ltb-true}
 use Rattle.causal.specs.Lists.{Mem}
-use Rattle.net.specs.Tests.{all, any}
+use Rattle.net.specs.Tests.{all}
 use Rattle.net.specs.Sorted.{ascends}
-use Rattle.net.specs.Net.{Arcs, Net, lessBond, hasBond, noArcs, arcsOf}
-use Rattle.net.specs.Rules.{startPlacesRule, startBondsRule, entryRule, entriesRule, joins, bondsRule, keptRule, arcsBondsRule, arcsRule, netRule}
+use Rattle.net.specs.Net.{Arcs, Net, hasBond, noArcs, arcsOf}
+use Rattle.net.specs.Rules.{startPlacesRule, startBondsRule, entryRule, entriesRule, bondsRule, keptRule, arcsBondsRule, arcsRule, netRule}
 use Rattle.net.specs.declared.Bond.{Bond}
 use Rattle.net.specs.declared.Entry.{Entry}
 use Rattle.net.specs.declared.Transition.{Transition}
-use Rattle.net.proofs.Tests.{and-l, and-r, all-e, any-e, all-at}
+use Rattle.net.proofs.Tests.{and-l, and-r, all-e, all-at}
 use Rattle.net.proofs.Bonds.{has-mem}
 use Rattle.net.proofs.Moves.{Joins}
+use Rattle.net.proofs.Rules.{joins-e, rule-joins}
 
 -- ---- one entry for each base
 
@@ -50,35 +51,13 @@ one-entry (x ∷ es) c e d (inl m) (inr n) q = let b = c .0 d n in let k : e .ba
 one-entry (x ∷ es) c e d (inr m) (inl n) q = let b = c .0 e m in let k : d .base ≡ x .base = ap (λ (y : Entry). y .base) n in absurd (let z : ⊥ = omega arith in z)
 one-entry (x ∷ es) c e d (inr m) (inr n) q = one-entry es (c .1) e d m n q
 
--- ---- the entries that a bond joins
-
-joins-e : (side : Entry → ℕ) (t : Arcs) (b : Bond) → joins side (t .entries) b ≡ true → (e : Entry) × (d : Entry) × Joins t b e d × (side e ≡ side d)
-joins-e side t b h =
-    let inner : Entry → Entry → Bool = λ e d. eqb (d .base) (b .hi) && eqb (side e) (side d) in
-    let outer : Entry → Bool = λ e. eqb (e .base) (b .lo) && any (inner e) (t .entries) in
-    let (e, m, p) = any-e outer (t .entries) (and-r (ltb (b .lo) (b .hi)) (any outer (t .entries)) h) in
-    let (d, k, q) = any-e (inner e) (t .entries) (and-r (eqb (e .base) (b .lo)) (any (inner e) (t .entries)) p) in (
-      e,
-      d,
-      record {
-        first = m;
-        second = k;
-        lo = eqb-true (e .base) (b .lo) (and-l (eqb (e .base) (b .lo)) (any (inner e) (t .entries)) p);
-        hi = eqb-true (d .base) (b .hi) (and-l (eqb (d .base) (b .hi)) (eqb (side e) (side d)) q);
-      },
-      eqb-true (side e) (side d) (and-r (eqb (d .base) (b .hi)) (eqb (side e) (side d)) q),
-    )
-
 -- ---- a transition
 
--- What the rules give, beside `Fit`; `kept` is Definition 3(2)'s rule.
+-- What the rules give, beside `Fit`.
 pub record Exact (t : Arcs) : Type 0 where
   pub one : (e d : Entry) → Mem e (t .entries) → Mem d (t .entries) → e .base ≡ d .base → e ≡ d
   pub ins : (b : Bond) → hasBond b (t .inBonds) ≡ true → (e : Entry) × (d : Entry) × Joins t b e d × (e .from ≡ d .from)
   pub low : (b : Bond) → hasBond b (t .inBonds) ≡ true → b .lo < b .hi
-
-rule-joins : (side : Entry → ℕ) (es : List Entry) (bs : List Bond) → bondsRule side es bs ≡ true → (b : Bond) → hasBond b bs ≡ true → joins side es b ≡ true
-rule-joins side es bs h b k = all-e (joins side es) bs (and-r (ascends lessBond bs) (all (joins side es) bs) h) b (has-mem bs b k)
 
 module _ (net : Net) (t : Arcs) (h : arcsRule (net .places) (net .bases) t ≡ true) where
   rest : (entriesRule (net .places) (net .bases) (t .entries) && arcsBondsRule t) ≡ true

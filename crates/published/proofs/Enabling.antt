@@ -22,6 +22,7 @@ use Rattle.net.specs.declared.Transition.{Transition}
 use Rattle.net.proofs.Tests.{fails, and-l, and-r, any-e, any-no}
 use Rattle.net.proofs.Bonds.{has-mem, mem-has}
 use Rattle.net.proofs.Connection.{connected-leads, leads-connected}
+use Rattle.net.proofs.Fire.{one-way}
 use Rattle.net.proofs.Rules.{fits}
 use Rattle.net.proofs.Journal.{enabled-fires}
 use Rattle.published.specs.Sets.{Iff, base, bond}
@@ -31,19 +32,10 @@ use Rattle.published.specs.Forward.{Enabled}
 use Rattle.published.specs.Sheets.{petriNet, marksOf}
 use Rattle.published.proofs.Components.{con-leads, leads-con}
 
--- ---- what 13 and 16 say of entries
-
--- an entry's base is at the in-place
+-- what 13 says of an entry: its base is at the in-place
 pub at-home : (t : Arcs) (s : Marking) → misplaced t s ≡ false → (e : Entry) → Mem e (t .entries) → place s (e .base) ≡ e .from
 at-home t s r e m = eqb-true (place s (e .base)) (e .from)
     (not-false (eqb (place s (e .base)) (e .from)) (any-no (λ (d : Entry). not (eqb (place s (d .base)) (d .from))) (t .entries) r e m))
-
--- connected entries have one out-place
-pub one-way : (t : Arcs) (s : Marking) → tornApart t s ≡ false → (e d : Entry) → Mem e (t .entries) → Mem d (t .entries) → Leads (s .bonds) (e .base) (d .base) → e .to ≡ d .to
-one-way t s r e d m n l =
-    let inner : Entry → Bool = λ y. any (λ (x : Entry). connected (s .bonds) (y .base) (x .base) && not (eqb (y .to) (x .to))) (t .entries) in
-    let k = any-no (λ (x : Entry). connected (s .bonds) (e .base) (x .base) && not (eqb (e .to) (x .to))) (t .entries) (any-no inner (t .entries) r e m) d n in
-    eqb-true (e .to) (d .to) (not-false (eqb (e .to) (d .to)) (rw (leads-connected (s .bonds) (e .base) (d .base) l) at k))
 
 module _ (net : Net) (ok : netRule net ≡ true) (s : Marking) (G : Good net s) (t : Transition) (h : t .0 < length (net .transitions)) where
   pub entry-incoming : (e : Entry) → Mem e (arcsOf net t .entries) → Incoming (petriNet net) t (e .from)
@@ -108,7 +100,7 @@ module _ (net : Net) (ok : netRule net ≡ true) (s : Marking) (G : Good net s) 
     kept-together : (a b y z : ℕ) → petriNet net .puts t y (base a) → petriNet net .puts t z (base b) → (x : ℕ) → Con a (marksOf net s x) (base b) → y ≡ z
     kept-together a b y z (_, e, m, p, q) (_, d, n, r, w) x c =
         let (_, _, _, l) = con-leads net s G x a (base b) c in
-        sym q ∙ one-way (arcsOf net t) s r16 e d m n (rw (p, r) l) ∙ w
+        sym q ∙ one-way net s G (arcsOf net t) (fits net ok t h) r16 e d m n (leads-connected (s .bonds) (e .base) (d .base) (rw (p, r) l)) ∙ w
 
     in-bond : (β : Bond) (x y : ℕ) → petriNet net .puts t x (bond β) → marksOf net s y (bond β) → petriNet net .takes y t (bond β)
     in-bond β x y (u, e, m, b, q) (k, r) = (

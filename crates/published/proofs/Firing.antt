@@ -21,14 +21,14 @@ use Rattle.net.specs.declared.Transition.{Transition}
 use Rattle.net.proofs.Tests.{or-e, or-l, or-r, any-e, any-i}
 use Rattle.net.proofs.Connection.{leads-trans, leads-sym, connected-leads, leads-connected}
 use Rattle.net.proofs.Moves.{sent-none, sent-is, Fit}
-use Rattle.net.proofs.Fire.{place-fire, has-fire}
+use Rattle.net.proofs.Fire.{place-fire, has-fire, one-way}
 use Rattle.net.proofs.Rules.{fits}
 use Rattle.net.proofs.Journal.{enabled-fires}
 use Rattle.published.specs.Sets.{Iff, Item, base, bond}
 use Rattle.published.specs.Forward.{firedMarks}
 use Rattle.published.specs.Sheets.{anchor, Present, petriNet, marksOf}
 use Rattle.published.proofs.Components.{leads-place, con-leads, leads-con}
-use Rattle.published.proofs.Enabling.{at-home, one-way}
+use Rattle.published.proofs.Enabling.{at-home}
 
 -- a base to which an entry's base leads is moved, and a moved base is led to
 pub led-moves : (t : Arcs) (bs : List Bond) (e : Entry) → Mem e (t .entries) → (p : ℕ) → Leads bs (e .base) p → moves bs (t .entries) p ≡ true
@@ -47,7 +47,7 @@ module _ (net : Net) (s : Marking) (G : Good net s) (a : Arcs) (F : Fit net a) w
 
   pub goes-to : tornApart a s ≡ false → (e : Entry) → Mem e (a .entries) → (p : ℕ) → Leads (s .bonds) (e .base) p → place (fire (net .bases) a s) p ≡ e .to
   goes-to r16 e m p l = place-fire net s G a F p ∙ sent-is (λ (d : Entry). d .to) (s .bonds) (a .entries) p (place s p) (e .to) (led-moves a (s .bonds) e m p l)
-      (λ d n c. one-way a s r16 d e n m (leads-trans (connected-leads (s .bonds) (d .base) p c) (leads-sym l)))
+      (λ d n c. one-way net s G a F r16 d e n m (leads-connected (s .bonds) (d .base) (e .base) (leads-trans (connected-leads (s .bonds) (d .base) p c) (leads-sym l))))
 
 module _ (net : Net) (ok : netRule net ≡ true) (s : Marking) (G : Good net s) (t : Transition) (h : t .0 < length (net .transitions))
     (r13 : misplaced (arcsOf net t) s ≡ false) (r16 : tornApart (arcsOf net t) s ≡ false) where

@@ -36,7 +36,9 @@ firedOrder N M H′ R t u j v k = R u j v k ⊎ ((v ≡ t) × DependsOn N M H′
 -- depends on that of t's highest key.
 pub record CausalEnabled (N : PetriNet) (M : Marks) (H : Keys) (R : Order) (t : Transition) : Type 0 where
   pub occurs : (k : ℕ) × Occurs H t k
+  -- (1)
   pub available : (x : ℕ) (i : Item) → Outgoing N t x → N .puts t x i → M x i
+  -- (2)
   pub unused : (k : ℕ) → Max (H t) k → (u : Transition) (j : ℕ) → Occurs H u j → R t k u j → ⊥
 
 -- Definition 12, ≺′ after the reversal of t; H is the history before it. M′ and H′ are Definition 7's.

@@ -13,9 +13,13 @@ use Rattle.published.specs.States.{Marks, Keys, Con}
 -- different places are connected in no incoming place; (4) a bond on an outgoing arc that is already in an incoming place
 -- is on that place's arc.
 pub record Enabled (N : PetriNet) (M : Marks) (t : Transition) : Type 0 where
+  -- (1)
   pub bases : (a x : ℕ) → Incoming N t x → N .takes x t (base a) → M x (base a)
+  -- (2)
   pub bonds : (β : Bond) (x : ℕ) → Incoming N t x → N .takes x t (bond β) → M x (bond β)
+  -- (3)
   pub apart : (a b y z : ℕ) → N .puts t y (base a) → N .puts t z (base b) → (y ≡ z → ⊥) → (x : ℕ) → Incoming N t x → Con a (M x) (base b) → ⊥
+  -- (4)
   pub fresh : (β : Bond) (x y : ℕ) → Outgoing N t x → N .puts t x (bond β) → Incoming N t y → M y (bond β) → N .takes y t (bond β)
 
 -- eff(t) = post(t) − pre(t)

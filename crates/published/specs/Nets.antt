@@ -7,13 +7,17 @@ use Rattle.net.specs.declared.Bond.{Bond}
 use Rattle.net.specs.declared.Transition.{Transition}
 use Rattle.published.specs.Sets.{Iff, Item, base, bond, Items, Finite}
 
--- Definition 2, the tuple (A, P, B, T, F). An arc's label is F(x, t) from a place to a transition (`takes`), F(t, x) from a
--- transition to a place (`puts`).
+-- Definition 2, the tuple (A, P, B, T, F).
 pub record PetriNet : Type 1 where
+  -- (1) A, the bases
   pub isBase : ℕ → Type 0
+  -- (2) P, the places
   pub isPlace : ℕ → Type 0
+  -- (3) B, the bonds
   pub isBond : Bond → Type 0
+  -- (4) T, the transitions
   pub isTransition : Transition → Type 0
+  -- (5) F, the labels of the arcs: F(x, t) from a place to a transition, F(t, x) from a transition to a place
   pub takes : ℕ → Transition → Items
   pub puts : Transition → ℕ → Items
 
@@ -51,6 +55,9 @@ Post N t i = (x : ℕ) × N .isPlace x × N .puts t x i
 -- Definition 3: well-formed. (1) The bases taken are the bases put; (2) a bond taken is put; (3) nothing is put in two
 -- places.
 pub record WellFormed (N : PetriNet) : Type 0 where
+  -- (1)
   pub sameBases : (t : Transition) (a : ℕ) → N .isTransition t → Iff (Pre N t (base a)) (Post N t (base a))
+  -- (2)
   pub keptBonds : (t : Transition) (β : Bond) → N .isTransition t → Pre N t (bond β) → Post N t (bond β)
+  -- (3)
   pub oncePut : (t : Transition) (x y : ℕ) (i : Item) → N .isTransition t → N .isPlace x → N .isPlace y → (x ≡ y → ⊥) → N .puts t x i → N .puts t y i → ⊥
