@@ -88,7 +88,8 @@ KeysAsPublished s r = (t : Tally) (c : List ℕ) → commandOf s r t c .outcome 
 
 -- ---- All of it, of every accepted sheet: its net is one of Definition 2 and well-formed (Definition 3); the history of a fresh
 -- record is empty; and, for a well-formed net, every record that a session can reach from a fresh one, and every sound
--- record that is handed in (whose ≺ is then taken to be document 01's dependence).
+-- record that is handed in (whose ≺ is then taken to be document 01's dependence). That the net is well-formed is a claim of
+-- its own, so that T-07, whose sheets need not keep Definition 3(2), changes that claim alone.
 
 pub record FollowsPublished (s : List ℕ) : Type 0 where
   pub definition2 : Definition2 (petriNet (netOf s))

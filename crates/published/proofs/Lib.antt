@@ -11,6 +11,6 @@ pub mod Keys
 pub mod FiredKeys
 pub mod Order
 pub mod Causal
-pub mod Cases
+pub mod ByCases
 pub mod Claims
 pub mod Instances

@@ -62,8 +62,9 @@ pub record AsPublished (net : Net) (j : Journal) (R : Order) : Type 0 where
 abbrev pub KeysAsPublished : Net → Journal → Type 0
 KeysAsPublished net j = (t u : Transition) (k : ℕ) → Iff (keysOf (fireReply net j t .journal) u k) (firedKeys (petriNet net) (keysOf j) t u k)
 
--- ---- All of it, of a net and every list of commands on it. ≺ is what Definitions 10 and 12 keep over the commands. `states`
--- rests on Definition 3 alone; that the net is well-formed is a claim of its own.
+-- ---- All of it, of a net and every list of commands on it. ≺ is what Definitions 10 and 12 keep over the commands. `states` is
+-- claimed of well-formed nets; that the net is one is a claim of its own, so that T-07, whose sheets need not keep
+-- Definition 3(2), changes that claim alone.
 
 pub record Published (net : Net) : Type 0 where
   pub definition2 : Definition2 (petriNet net)
