@@ -17,9 +17,11 @@ use Rattle.session.specs.Records.{Sound}
 use Rattle.session.specs.Commands.{freshOf}
 use Rattle.session.proofs.Begins.{fresh-sound}
 use Rattle.claims.specs.Demands.{Demand3, Demands}
+use Rattle.claims.specs.Published.{FollowsPublished}
 use Rattle.claims.proofs.Answers.{demand1, demand2}
 use Rattle.claims.proofs.Sessions.{demand3}
 use Rattle.claims.proofs.Counts.{session-totals}
+use Rattle.claims.proofs.Published.{demand2-published}
 
 pub demands : Demands
 demands = record {
@@ -51,3 +53,10 @@ sound-A = fresh-sound sheetA accepted-A
 
 pub sound-B : Sound sheetB (freshOf sheetB)
 sound-B = fresh-sound sheetB accepted-B
+
+-- and they do what the published definition does
+pub published-A : FollowsPublished sheetA
+published-A = demand2-published sheetA accepted-A
+
+pub published-B : FollowsPublished sheetB
+published-B = demand2-published sheetB accepted-B

@@ -2,4 +2,5 @@
 pub mod Answers
 pub mod Sessions
 pub mod Counts
+pub mod Published
 pub mod Demands

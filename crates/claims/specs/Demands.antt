@@ -41,7 +41,8 @@ pub record Demand1 (s : List ℕ) (r : Record) (t : Tally) (c : List ℕ) : Type
   pub refused : (n : ℕ) → commandOf s r t c .outcome .answer ≡ Refused n
       → commandOf s r t c ≡ record { outcome = refusal r n; tally = oneMoreRefused t }
 
--- ---- Demand 2: firing and taking back give exactly what document 01's definitions give
+-- ---- Demand 2: firing and taking back give exactly what document 01's definitions give (that these are the published ones
+-- is Published.antt's claim)
 
 -- The check of number n is the first that holds: those before it do not.
 abbrev pub FirstHolds : ℕ → List Check → Type 0

@@ -1,2 +1,3 @@
 -- The demands.
 pub mod Demands
+pub mod Published

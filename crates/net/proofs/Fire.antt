@@ -35,7 +35,7 @@ module _ (net : Net) (s : Marking) (G : Good net s) (t : Arcs) (F : Fit net t) w
 
 module _ (net : Net) (s : Marking) (G : Good net s) (t : Arcs) (F : Fit net t) (way : tornApart t s ≡ false) where
   -- connected entries have one out-place
-  one-way : (e d : Entry) → Mem e (t .entries) → Mem d (t .entries) → connected (s .bonds) (e .base) (d .base) ≡ true → e .to ≡ d .to
+  pub one-way : (e d : Entry) → Mem e (t .entries) → Mem d (t .entries) → connected (s .bonds) (e .base) (d .base) ≡ true → e .to ≡ d .to
   one-way e d h k c =
       let inner : Entry → Bool = λ y. any (λ (x : Entry). connected (s .bonds) (y .base) (x .base) && not (eqb (y .to) (x .to))) (t .entries) in
       let r = any-no (λ (x : Entry). connected (s .bonds) (e .base) (x .base) && not (eqb (e .to) (x .to))) (t .entries) (any-no inner (t .entries) way e h) d k in

@@ -24,7 +24,7 @@ use Rattle.net.proofs.Moves.{Joins, Fit}
 -- ---- a transition
 
 -- the entries that a bond joins
-joins-e : (side : Entry → ℕ) (t : Arcs) (b : Bond) → joins side (t .entries) b ≡ true → (e : Entry) × (d : Entry) × Joins t b e d × (side e ≡ side d)
+pub joins-e : (side : Entry → ℕ) (t : Arcs) (b : Bond) → joins side (t .entries) b ≡ true → (e : Entry) × (d : Entry) × Joins t b e d × (side e ≡ side d)
 joins-e side t b h =
     let inner : Entry → Entry → Bool = λ e d. eqb (d .base) (b .hi) && eqb (side e) (side d) in
     let outer : Entry → Bool = λ e. eqb (e .base) (b .lo) && any (inner e) (t .entries) in
@@ -42,7 +42,7 @@ joins-e side t b h =
     )
 
 -- a bond of a list that passes its rule
-rule-joins : (side : Entry → ℕ) (es : List Entry) (bs : List Bond) → bondsRule side es bs ≡ true → (b : Bond) → hasBond b bs ≡ true → joins side es b ≡ true
+pub rule-joins : (side : Entry → ℕ) (es : List Entry) (bs : List Bond) → bondsRule side es bs ≡ true → (b : Bond) → hasBond b bs ≡ true → joins side es b ≡ true
 rule-joins side es bs h b k = all-e (joins side es) bs (and-r (ascends lessBond bs) (all (joins side es) bs) h) b (has-mem bs b k)
 
 pub arcs-fit : (net : Net) (t : Arcs) → arcsRule (net .places) (net .bases) t ≡ true → Fit net t

@@ -1,0 +1,158 @@
+-- 19 and 20 refuse exactly where Definition 11 does; kind 2's key is Definition 6's; and taking back gives Definition 7's
+-- marking. Assumes that the net meets the sheet's rules, and a journal that commands keep.
+use mathlib.Core.Path.{_≡_, refl, sym, _∙_, ap, subst}
+use mathlib.Core.Logic.{_⊎_, inl, inr}
+use mathlib.Core.Bool.{Bool, true, false}
+use mathlib.Core.List.{List, _∷_, _++_}
+use Prim.Native.Nat.{ℕ, _<_, _≤_}
+use native.Mathlib.Omega.{arith}
+use Rattle.causal.specs.Lists.{Mem}
+use Rattle.causal.specs.Reorderings.{Dependent}
+use Rattle.causal.proofs.Tests.{both}
+use Rattle.net.specs.Net.{Marking, Net, hasBond, place, arcsOf}
+use Rattle.net.specs.Rules.{netRule}
+use Rattle.net.specs.Connection.{here}
+use Rattle.net.specs.Firing.{inSet, fire, undo}
+use Rattle.net.specs.Checks.{clear}
+use Rattle.net.specs.Journal.{LiveLine, Journal, key, highestLive, isLive, lineOf, builtOn, undoChecks, undoReply}
+use Rattle.net.specs.declared.Entry.{Entry}
+use Rattle.net.specs.declared.Key.{Key}
+use Rattle.net.specs.declared.Transition.{Transition}
+use Rattle.net.proofs.Tests.{fails, or-l}
+use Rattle.net.proofs.Moves.{Fit, view, seen-place, seen-first, entry-moves}
+use Rattle.net.proofs.Fire.{has-fire}
+use Rattle.net.proofs.Rules.{fits}
+use Rattle.net.proofs.Keys.{mem-highest, up-after, live-split, independent-later, builtOn-after}
+use Rattle.net.proofs.Journal.{Held}
+use Rattle.published.specs.Sets.{Iff, Item, base, bond, Max}
+use Rattle.published.specs.Backtracking.{BacktrackEnabled, reversedMarks}
+use Rattle.published.specs.Causal.{Order, CausalEnabled}
+use Rattle.published.specs.Sheets.{anchor, Allowed, Present, petriNet, marksOf, keysOf}
+use Rattle.published.proofs.Firing.{goes-to}
+use Rattle.published.proofs.Reversal.{reversed-to, reversed-from}
+use Rattle.published.proofs.Lines.{one-line, line-live, live-line, highest-is, builtOn-e, builtOn-i}
+use Rattle.published.proofs.Sessions.{good-now, line-listed, Untouched, untouched}
+use Rattle.published.proofs.Keys.{one-max, undo-live, undo-free, undo-mem, undo-key, undo-latest}
+use Rattle.published.proofs.Order.{Agrees}
+
+module _ (net : Net) (ok : netRule net ≡ true) (j : Journal) (H : Held net j) where
+  -- ---- a firing that 19 and 20 do not refuse
+
+  module _ (k : Key) (e : clear (undoChecks j k) ≡ true) where
+    left-alone : Untouched net ok j (lineOf k (j .lines))
+    left-alone =
+        let (xs, ys, q, r) = live-split k (j .lines) (undo-live net ok j H k e) in
+        go (lineOf k (j .lines)) xs ys q (undo-free net ok j H k e)
+      where
+        go : (h : LiveLine) (xs ys : List LiveLine) → j .lines ≡ xs ++ h ∷ ys → builtOn (j .lines) h ≡ false → Untouched net ok j h
+        go h xs ys q d = untouched net ok j H h xs ys q (independent-later h ys (up-after h xs ys (rw q at (H .up))) (builtOn-after h xs ys (rw q at d)))
+
+    -- Definition 7's marking
+    pub reversed-marks : (x : ℕ) (i : Item) → Iff (marksOf net (undoReply net j k .journal .marking) x i) (reversedMarks (petriNet net) (marksOf net (j .marking)) (lineOf k (j .lines) .transition) x i)
+    reversed-marks x i =
+        let U = left-alone in
+        let f = U .fires in
+        let t : Transition = lineOf k (j .lines) .transition in
+        subst (λ (m : List Bool). Iff (marksOf net (undo (net .bases) (arcsOf net t) m (j .marking)) x i) (reversedMarks (petriNet net) (marksOf net (j .marking)) t x i)) (sym (f .moves-m)) (
+          reversed-to net ok (U .before) (U .good) t (f .listed) (f .placed) (f .present) (f .absent) (f .together) (j .marking) (good-now net ok j H) (U .like) x i,
+          reversed-from net ok (U .before) (U .good) t (f .listed) (f .placed) (f .present) (f .absent) (f .together) (j .marking) (good-now net ok j H) (U .like) x i,
+        )
+
+  -- ---- all that a firing put is where it put it, while its bases are left alone
+
+  module _ (l : LiveLine) (U : Untouched net ok j l) where
+    fit : Fit net (arcsOf net (l .transition))
+    fit = fits net ok (l .transition) (U .fires .listed)
+
+    abbrev after : Marking
+    after = fire (net .bases) (arcsOf net (l .transition)) (U .before)
+
+    entry-like : (d : Entry) → Mem d (arcsOf net (l .transition) .entries) → view after (d .base) ≡ view (j .marking) (d .base)
+    entry-like d m = U .like (d .base) (entry-moves net (U .before) (U .good) (arcsOf net (l .transition)) fit d m)
+
+    there : (i : Item) (d : Entry) → Mem d (arcsOf net (l .transition) .entries) → Allowed (arcsOf net (l .transition) .outBonds) i → d .base ≡ anchor i → Present net (j .marking) i
+    there (base b) d m u e = rw (← e) (fit .bases d m)
+    there (bond β) d m u e =
+        let v : view after (β .lo) ≡ view (j .marking) (β .lo) = subst (λ (p : ℕ). view after p ≡ view (j .marking) p) e (entry-like d m) in
+        sym (seen-first after (j .marking) (β .lo) v (β .hi)) ∙ has-fire net (U .before) (U .good) (arcsOf net (l .transition)) fit β
+        ∙ or-l (hasBond β (arcsOf net (l .transition) .outBonds)) (hasBond β (U .before .bonds)) u
+
+    all-there : (x : ℕ) (i : Item) → petriNet net .puts (l .transition) x i → marksOf net (j .marking) x i
+    all-there x i (u, d, m, b, q) = (
+      there i d m u b,
+      ap (place (j .marking)) (sym b) ∙ sym (seen-place after (j .marking) (d .base) (entry-like d m))
+          ∙ goes-to net (U .before) (U .good) (arcsOf net (l .transition)) fit (U .fires .together) d m (d .base) (here refl) ∙ q,
+    )
+
+  -- ---- Definition 11
+
+  module _ (R : Order) (A : Agrees j R) where
+    enabled-undo : (k : Key) (t : Transition) → CausalEnabled (petriNet net) (marksOf net (j .marking)) (keysOf j) R t → Max (keysOf j t) (k .0)
+        → (clear (undoChecks j k) ≡ true) × (lineOf k (j .lines) .transition ≡ t)
+    enabled-undo k t D ((l, m, p, q), top) =
+        let live : isLive k (j .lines) ≡ true = line-live (j .lines) l k m q in
+        let (m′, q″) = live-line (j .lines) k live in
+        let same : lineOf k (j .lines) ≡ l = one-line (j .lines) (H .up) (lineOf k (j .lines)) l m′ m (q″ ∙ sym q) in
+        let free : builtOn (j .lines) (lineOf k (j .lines)) ≡ false = rw same (fails (builtOn (j .lines) l) (λ b. no-later (builtOn-e (j .lines) l b))) in
+        (rw (live, free), ap (λ (y : LiveLine). y .transition) same ∙ p)
+      where
+        no-later : (h : LiveLine) × Mem h (j .lines) × (l .key .0 < h .key .0) × Dependent inSet (l .moved) (h .moved) → ⊥
+        no-later (h, n, lt, c) =
+            D .unused (k .0) ((l, m, p, q), top) (h .transition) (h .key .0) (h, n, refl, refl)
+            (A t (k .0) (h .transition) (h .key .0) .1 (l, h, m, n, p, q, refl, refl, rw (← q) lt, c))
+
+    undo-enabled : (k : Key) → clear (undoChecks j k) ≡ true → CausalEnabled (petriNet net) (marksOf net (j .marking)) (keysOf j) R (lineOf k (j .lines) .transition)
+    undo-enabled k e = record {
+      occurs = (k .0, undo-latest net ok j H k e .0);
+      available = λ x i _ u. all-there (lineOf k (j .lines)) (left-alone k e) x i u;
+      unused = λ n x u i _ r. no-later n x u i r;
+    }
+      where
+        no-later : (n : ℕ) → Max (keysOf j (lineOf k (j .lines) .transition)) n → (u : Transition) (i : ℕ) → R (lineOf k (j .lines) .transition) n u i → ⊥
+        no-later n x u i r =
+            let (l, h, a, b, p, q, p′, q′, lt, c) = A (lineOf k (j .lines) .transition) n u i .0 r in
+            let d : n ≡ k .0 = one-max (keysOf j (lineOf k (j .lines) .transition)) n (k .0) x (undo-latest net ok j H k e) in
+            let same : l ≡ lineOf k (j .lines) = one-line (j .lines) (H .up) l (lineOf k (j .lines)) a (undo-mem net ok j H k e) (q ∙ d ∙ sym (undo-key net ok j H k e)) in
+            both (builtOn (j .lines) (lineOf k (j .lines))) (subst (λ (y : LiveLine). builtOn (j .lines) y ≡ true) same (builtOn-i (j .lines) l h b (rw (q, q′) lt) c)) (undo-free net ok j H k e)
+
+    pub undo-iff : (k : Key) (t : Transition) → Iff
+        ((clear (undoChecks j k) ≡ true) × (lineOf k (j .lines) .transition ≡ t))
+        (CausalEnabled (petriNet net) (marksOf net (j .marking)) (keysOf j) R t × Max (keysOf j t) (k .0))
+    undo-iff k t = (
+      (λ (e, q). subst (λ (w : Transition). CausalEnabled (petriNet net) (marksOf net (j .marking)) (keysOf j) R w × Max (keysOf j w) (k .0)) q (undo-enabled k e, undo-latest net ok j H k e)),
+      (λ (D, x). enabled-undo k t D x),
+    )
+
+  -- ---- Definition 6
+
+  abbrev last : Key
+  last = key (highestLive (j .lines))
+
+  not-built-on : (l : LiveLine) → Mem l (j .lines) → l .key .0 ≡ highestLive (j .lines) → builtOn (j .lines) l ≡ false
+  not-built-on l m e = fails (builtOn (j .lines) l) (λ b. go (builtOn-e (j .lines) l b))
+    where
+      go : (h : LiveLine) × Mem h (j .lines) × (l .key .0 < h .key .0) × Dependent inSet (l .moved) (h .moved) → ⊥
+      go (h, n, lt, _) = let a = mem-highest (j .lines) h n in omega arith
+
+  pub last-iff : (t : Transition) → Iff
+      ((clear (undoChecks j (key (highestLive (j .lines)))) ≡ true) × (lineOf (key (highestLive (j .lines))) (j .lines) .transition ≡ t))
+      (BacktrackEnabled (petriNet net) (keysOf j) t)
+  last-iff t = (
+    (λ (e, q). (highestLive (j .lines), (lineOf last (j .lines), undo-mem net ok j H last e, q, undo-key net ok j H last e), λ u i _ (h, n, _, d). let a = mem-highest (j .lines) h n in omega arith)),
+    (λ (k, (l, m, p, q), top). latest k l m p q (highest k l m q top)),
+  )
+    where
+      highest : (k : ℕ) (l : LiveLine) → Mem l (j .lines) → l .key .0 ≡ k → ((u : Transition) (i : ℕ) → petriNet net .isTransition u → keysOf j u i → i ≤ k) → l .key .0 ≡ highestLive (j .lines)
+      highest k l m q top = go (highest-is (j .lines))
+        where
+          go : (highestLive (j .lines) ≡ 0) ⊎ ((h : LiveLine) × Mem h (j .lines) × (h .key .0 ≡ highestLive (j .lines))) → l .key .0 ≡ highestLive (j .lines)
+          go (inl e) = let a = mem-highest (j .lines) l m in omega arith
+          go (inr (h, n, e)) = let a = mem-highest (j .lines) l m in let b = top (h .transition) (h .key .0) (line-listed net ok j H h n) (h, n, refl, refl) in omega arith
+
+      latest : (k : ℕ) (l : LiveLine) → Mem l (j .lines) → l .transition ≡ t → l .key .0 ≡ k → l .key .0 ≡ highestLive (j .lines)
+          → (clear (undoChecks j (key (highestLive (j .lines)))) ≡ true) × (lineOf (key (highestLive (j .lines))) (j .lines) .transition ≡ t)
+      latest k l m p q e =
+          let live : isLive (key (highestLive (j .lines))) (j .lines) ≡ true = line-live (j .lines) l (key (highestLive (j .lines))) m e in
+          let (m′, q′) = live-line (j .lines) (key (highestLive (j .lines))) live in
+          let same : lineOf (key (highestLive (j .lines))) (j .lines) ≡ l = one-line (j .lines) (H .up) (lineOf (key (highestLive (j .lines))) (j .lines)) l m′ m (q′ ∙ sym e) in
+          (rw (live, not-built-on (lineOf (key (highestLive (j .lines))) (j .lines)) m′ q′), ap (λ (y : LiveLine). y .transition) same ∙ p)
