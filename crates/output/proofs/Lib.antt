@@ -3,3 +3,4 @@ pub mod Codes
 pub mod Closing
 pub mod Sessions
 pub mod Starts
+pub mod Samples
