@@ -35,12 +35,16 @@ label-turn n lo hi i l r p q e d = d ∙ ap (λ (k : List ℕ). joinedLabels k (
     ∙ ap (table n) (sym (labelling-more (λ x. x) i (ends lo hi)))
 
 -- a label that gives way to itself
-pub rename-same : (x : ℕ) (l : List ℕ) → l ≡ map (renamed x x) l
+rename-same : (x : ℕ) (l : List ℕ) → l ≡ map (renamed x x) l
 rename-same x [] = refl
 rename-same x (y ∷ l) = λ i. one i ∷ rename-same x l i
   where
     one : y ≡ renamed x x y
     one = pick-case (λ (z : ℕ). y ≡ z) (eqb y x) x y (λ e. eqb-true y x e) (λ e. refl)
+
+-- a bond of two bases with one label changes nothing
+pub same-join : (l : List ℕ) (p q : ℕ) → getD l p 0 ≡ getD l q 0 → l ≡ joinedLabels l p q
+same-join l p q e = rename-same (getD l q 0) l ∙ ap (λ (x : ℕ). map (renamed (getD l q 0) x) l) (sym e)
 
 -- the bases below n keep labels below n, where the bonds are of bases below n
 labelling-below : (n : ℕ) (bs : List Bond) (f : ℕ → ℕ) → ((b : Bond) → Mem b bs → b .lo < n) → ((p : ℕ) → p < n → f p < n) → (p : ℕ) → p < n → labelling f bs p < n

@@ -81,20 +81,6 @@ fn rename(labels: [Base; MAX_BASES], from: Base, to: Base) -> [Base; MAX_BASES]
     l
 }
 
-// The labels after the bond of p and q. Equal labels stay: each renaming joins two groups, so all the
-// bonds together take at most bases - 1 of them.
-fn join(labels: [Base; MAX_BASES], p: Base, q: Base) -> [Base; MAX_BASES]
-    requires { ⌜ (p < maxBases) × (q < maxBases) ⌝ }
-    ensures { λ r. ⌜ r ≡ joinedLabels labels p q ⌝ }
-{
-    let to = labels[p as usize];
-    let from = labels[q as usize];
-    if to == from {
-        return labels;
-    }
-    rename(labels, from, to)
-}
-
 // At first each base has itself for a label.
 fn own_labels() -> [Base; MAX_BASES]
     ensures { λ r. ⌜ r ≡ table maxBases (λ p. p) ⌝ }
@@ -108,7 +94,8 @@ fn own_labels() -> [Base; MAX_BASES]
     l
 }
 
-// The labels of all bases after the first `count` bonds, in their order: connected bases have one label.
+// The labels of all bases after the first `count` bonds, in their order: connected bases have one label. A bond of two
+// bases with one label changes nothing; each renaming joins two groups, so all the bonds take at most bases - 1 of them.
 // The bonds are of bases below the limit: the callers hold a good marking.
 pub fn labels<'a>(lo: &'a [Base], hi: &'a [Base], count: usize) -> [Base; MAX_BASES]
     requires { ⌜ (count ≤ length (now lo)) × (count ≤ length (now hi)) ⌝ }
@@ -119,8 +106,11 @@ pub fn labels<'a>(lo: &'a [Base], hi: &'a [Base], count: usize) -> [Base; MAX_BA
     let mut unread = count;
     let mut i = 0;
     while 0 < unread {
-        let next = join(l, lo[i], hi[i]);
-        l = next;
+        let to = l[lo[i] as usize];
+        let from = l[hi[i] as usize];
+        if to != from {
+            l = rename(l, from, to);
+        }
         i += 1;
         unread -= 1;
     }
