@@ -20,7 +20,11 @@ struct Step {
 
 /// A step of one entry and no coupling.
 fn plain_step(part: u8, from: u8, to: u8) -> Step {
-    Step { entries: vec![(part, from, to)], ins: vec![], outs: vec![] }
+    Step {
+        entries: vec![(part, from, to)],
+        ins: vec![],
+        outs: vec![],
+    }
 }
 
 fn word(n: usize) -> [u8; 2] {
@@ -33,7 +37,11 @@ fn pairs(couplings: &[Coupling]) -> Vec<u8> {
 
 fn step_bytes(step: &Step) -> Vec<u8> {
     let mut bytes = vec![step.entries.len() as u8];
-    bytes.extend(step.entries.iter().flat_map(|&(part, from, to)| [part, from, to]));
+    bytes.extend(
+        step.entries
+            .iter()
+            .flat_map(|&(part, from, to)| [part, from, to]),
+    );
     for couplings in [&step.ins, &step.outs] {
         bytes.push(couplings.len() as u8);
         bytes.extend(pairs(couplings));
@@ -74,7 +82,8 @@ fn write(folder: &Path, name: &str, sheet: &[u8], commands: impl Iterator<Item =
     let mut bytes = word(sheet.len()).to_vec();
     bytes.extend_from_slice(sheet);
     bytes.extend(commands.flatten());
-    std::fs::write(folder.join(name).with_extension("in"), bytes).expect("the folder can be written");
+    std::fs::write(folder.join(name).with_extension("in"), bytes)
+        .expect("the folder can be written");
 }
 
 /// One firing on each part in turn.
@@ -84,7 +93,9 @@ fn filled(n: usize) -> impl Iterator<Item = Command> {
 
 /// n live at most: n - 1 stand, and one more is fired and taken back.
 fn in_order(n: usize) -> impl Iterator<Item = Command> {
-    filled(n - 1).chain([fire(0), UNDO_LAST].into_iter().cycle()).take(COMMANDS)
+    filled(n - 1)
+        .chain([fire(0), UNDO_LAST].into_iter().cycle())
+        .take(COMMANDS)
 }
 
 /// n live at most: the oldest that no later one blocks is taken back by its serial, and its step fires again.
@@ -114,7 +125,16 @@ fn out_of_order(n: usize) -> impl Iterator<Item = Command> {
 
 /// 200 firings stand, and everything after them is refused.
 fn refusals() -> impl Iterator<Item = Command> {
-    let bad = [fire(64), undo(0), undo(1), [9, 0, 0], [2, 1, 0], undo(5_000), fire(300), fire(64 + 256)];
+    let bad = [
+        fire(64),
+        undo(0),
+        undo(1),
+        [9, 0, 0],
+        [2, 1, 0],
+        undo(5_000),
+        fire(300),
+        fire(64 + 256),
+    ];
     filled(200).chain(bad.into_iter().cycle()).take(COMMANDS)
 }
 
@@ -124,7 +144,9 @@ fn main() {
     let apart: Vec<Step> = (0..PARTS).map(|p| plain_step(p, 0, 0)).collect();
     let apart = sheet(&[], &apart);
     let there_and_back = [plain_step(0, 0, 1), plain_step(0, 1, 0)];
-    let all: Vec<Coupling> = (0..PARTS).flat_map(|p| (p + 1..PARTS).map(move |q| (p, q))).collect();
+    let all: Vec<Coupling> = (0..PARTS)
+        .flat_map(|p| (p + 1..PARTS).map(move |q| (p, q)))
+        .collect();
     let line: Vec<Coupling> = (1..PARTS).map(|q| (q - 1, q)).collect();
 
     write(folder, "start", &apart, std::iter::empty());
@@ -132,10 +154,25 @@ fn main() {
         write(folder, &format!("live{n}"), &apart, in_order(n));
         write(folder, &format!("middle{n}"), &apart, out_of_order(n));
     }
-    write(folder, "all2016", &sheet(&all, &there_and_back), in_order(1));
-    write(folder, "chain63", &sheet(&line, &there_and_back), in_order(1));
+    write(
+        folder,
+        "all2016",
+        &sheet(&all, &there_and_back),
+        in_order(1),
+    );
+    write(
+        folder,
+        "chain63",
+        &sheet(&line, &there_and_back),
+        in_order(1),
+    );
     write(folder, "refused", &apart, refusals());
     let again = || [UNDO_LAST, fire(63)].into_iter().cycle();
     write(folder, "single_before", &apart, filled(MOST_LIVE));
-    write(folder, "single", &apart, filled(MOST_LIVE).chain(again()).take(MOST_LIVE + SINGLE));
+    write(
+        folder,
+        "single",
+        &apart,
+        filled(MOST_LIVE).chain(again()).take(MOST_LIVE + SINGLE),
+    );
 }

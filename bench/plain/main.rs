@@ -46,7 +46,11 @@ fn put_answer(out: &mut Vec<u8>, number: usize, answer: Answer) {
 }
 
 fn put_tally(out: &mut Vec<u8>, tally: &Tally) {
-    put_line(out, b"tally", [tally.fired, tally.undone, tally.refused].map(usize::from));
+    put_line(
+        out,
+        b"tally",
+        [tally.fired, tally.undone, tally.refused].map(usize::from),
+    );
 }
 
 fn put_closing(out: &mut Vec<u8>, parts: usize, session: &Session, tally: &Tally) {
@@ -59,7 +63,11 @@ fn put_closing(out: &mut Vec<u8>, parts: usize, session: &Session, tally: &Tally
             }
         }
     }
-    put_line(out, b"live", session.live.iter().map(|f| usize::from(f.serial)));
+    put_line(
+        out,
+        b"live",
+        session.live.iter().map(|f| usize::from(f.serial)),
+    );
     put_tally(out, tally);
 }
 
@@ -114,7 +122,10 @@ fn parted(input: &[u8]) -> (&[u8], &[u8]) {
 fn main() -> std::io::Result<()> {
     let singly = std::env::args().nth(1).is_some_and(|a| a == "singly");
     let mut input = Vec::with_capacity(MAX_INPUT as usize);
-    std::io::stdin().lock().take(MAX_INPUT).read_to_end(&mut input)?;
+    std::io::stdin()
+        .lock()
+        .take(MAX_INPUT)
+        .read_to_end(&mut input)?;
     let (sheet, commands) = parted(&input);
     let mut out = Vec::with_capacity(24 * (commands.len() / 3 + 1));
     match sheet::read(sheet) {

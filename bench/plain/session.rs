@@ -54,7 +54,10 @@ fn members(mut set: u64) -> impl Iterator<Item = usize> {
 
 impl Marking {
     pub fn start(net: &Net) -> Self {
-        let mut marking = Marking { places: [0; 64], neighbours: [0; 64] };
+        let mut marking = Marking {
+            places: [0; 64],
+            neighbours: [0; 64],
+        };
         marking.places[..net.start_places.len()].copy_from_slice(&net.start_places);
         net.start_couplings.iter().for_each(|&c| marking.couple(c));
         marking
@@ -108,13 +111,19 @@ impl Marking {
             }
             let group = self.group(e.part);
             seen |= group;
-            entries[i + 1..].iter().any(|f| group >> f.part & 1 == 1 && f.to != e.to)
+            entries[i + 1..]
+                .iter()
+                .any(|f| group >> f.part & 1 == 1 && f.to != e.to)
         })
     }
 
     /// 13 to 16, or 0.
     pub fn blocked(&self, step: &Step) -> u8 {
-        if step.entries.iter().any(|e| self.places[usize::from(e.part)] != e.from) {
+        if step
+            .entries
+            .iter()
+            .any(|e| self.places[usize::from(e.part)] != e.from)
+        {
             13
         } else if step.needed.iter().any(|&c| !self.coupled(c)) {
             14
@@ -147,7 +156,10 @@ pub struct Session {
 
 impl Session {
     pub fn start(net: &Net) -> Self {
-        Session { marking: Marking::start(net), live: Vec::with_capacity(MAX_LIVE) }
+        Session {
+            marking: Marking::start(net),
+            live: Vec::with_capacity(MAX_LIVE),
+        }
     }
 
     fn highest(&self) -> u16 {
@@ -169,7 +181,11 @@ impl Session {
             return Answer::Refused(18);
         };
         let moved = self.marking.fire(step);
-        self.live.push(Firing { step: number as u8, serial, moved });
+        self.live.push(Firing {
+            step: number as u8,
+            serial,
+            moved,
+        });
         Answer::Fired(serial)
     }
 
@@ -181,7 +197,8 @@ impl Session {
         if self.live[i + 1..].iter().any(|f| f.moved & moved != 0) {
             return Answer::Refused(20);
         }
-        self.marking.take_back(&net.steps[usize::from(self.live[i].step)]);
+        self.marking
+            .take_back(&net.steps[usize::from(self.live[i].step)]);
         self.live.remove(i);
         Answer::Undone(serial)
     }

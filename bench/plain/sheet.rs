@@ -33,7 +33,11 @@ fn word(bytes: &[u8], at: usize) -> usize {
 }
 
 fn refuse_if(wrong: bool, number: Refusal) -> Result<(), Refusal> {
-    if wrong { Err(number) } else { Ok(()) }
+    if wrong {
+        Err(number)
+    } else {
+        Ok(())
+    }
 }
 
 /// Pairs of parts p < q, strictly ascending as pairs, or nothing.
@@ -81,9 +85,17 @@ fn step_parts(bytes: &[u8]) -> Option<(&[u8], &[u8], &[u8])> {
 }
 
 fn read_entries(bytes: &[u8], places: u8, parts: u8) -> Option<Vec<Entry>> {
-    let entries: Vec<Entry> =
-        bytes.chunks_exact(3).map(|c| Entry { part: c[0], from: c[1], to: c[2] }).collect();
-    let there = entries.iter().all(|e| e.part < parts && e.from < places && e.to < places);
+    let entries: Vec<Entry> = bytes
+        .chunks_exact(3)
+        .map(|c| Entry {
+            part: c[0],
+            from: c[1],
+            to: c[2],
+        })
+        .collect();
+    let there = entries
+        .iter()
+        .all(|e| e.part < parts && e.from < places && e.to < places);
     let in_order = entries.windows(2).all(|w| w[0].part < w[1].part);
     (there && in_order).then_some(entries)
 }
@@ -96,12 +108,17 @@ fn read_couplings(
 ) -> Option<Vec<Coupling>> {
     let pairs = ascending_pairs(bytes)?;
     let place_of = |part: u8| {
-        entries.binary_search_by_key(&part, |e| e.part).ok().map(|i| place(&entries[i]))
+        entries
+            .binary_search_by_key(&part, |e| e.part)
+            .ok()
+            .map(|i| place(&entries[i]))
     };
-    let fine = pairs.iter().all(|&(p, q)| match (place_of(p), place_of(q)) {
-        (Some(a), Some(b)) => a == b,
-        _ => false,
-    });
+    let fine = pairs
+        .iter()
+        .all(|&(p, q)| match (place_of(p), place_of(q)) {
+            (Some(a), Some(b)) => a == b,
+            _ => false,
+        });
     fine.then_some(pairs)
 }
 
@@ -112,7 +129,11 @@ fn read_step(bytes: &[u8], places: u8, parts: u8) -> Result<Step, Refusal> {
     let mut added = read_couplings(outs, &entries, |e| e.to).ok_or(9)?;
     refuse_if(needed.iter().any(|c| added.binary_search(c).is_err()), 9)?;
     added.retain(|c| needed.binary_search(c).is_err());
-    Ok(Step { entries, needed, added })
+    Ok(Step {
+        entries,
+        needed,
+        added,
+    })
 }
 
 pub fn read(sheet: &[u8]) -> Result<Net, Refusal> {
@@ -124,7 +145,8 @@ pub fn read(sheet: &[u8]) -> Result<Net, Refusal> {
     let found = stretches(sheet, usize::from(steps)).ok_or(4)?;
 
     let start_places = found[0].to_vec();
-    let wrong = start_places.len() != usize::from(parts) || start_places.iter().any(|&p| p >= places);
+    let wrong =
+        start_places.len() != usize::from(parts) || start_places.iter().any(|&p| p >= places);
     refuse_if(wrong, 5)?;
     let start_couplings = ascending_pairs(found[1]).ok_or(6)?;
     let apart = |&(p, q): &Coupling| {
@@ -132,7 +154,13 @@ pub fn read(sheet: &[u8]) -> Result<Net, Refusal> {
     };
     refuse_if(start_couplings.iter().any(apart), 6)?;
 
-    let steps: Result<Vec<Step>, Refusal> =
-        found[2..].iter().map(|bytes| read_step(bytes, places, parts)).collect();
-    Ok(Net { start_places, start_couplings, steps: steps? })
+    let steps: Result<Vec<Step>, Refusal> = found[2..]
+        .iter()
+        .map(|bytes| read_step(bytes, places, parts))
+        .collect();
+    Ok(Net {
+        start_places,
+        start_couplings,
+        steps: steps?,
+    })
 }
