@@ -1,0 +1,178 @@
+// Writes the inputs of the measurement into a folder: inputs FOLDER. The same bytes on each run.
+// An input is what the exam program reads: the sheet's length, the sheet, the commands.
+
+use std::collections::VecDeque;
+use std::path::Path;
+
+const COMMANDS: usize = 65_535;
+const PARTS: u8 = 64;
+const MOST_LIVE: usize = 256;
+/// Commands of the single call that are timed at 256 live firings.
+const SINGLE: usize = 2_000;
+
+type Coupling = (u8, u8);
+
+struct Step {
+    entries: Vec<(u8, u8, u8)>,
+    ins: Vec<Coupling>,
+    outs: Vec<Coupling>,
+}
+
+/// A step of one entry and no coupling.
+fn plain_step(part: u8, from: u8, to: u8) -> Step {
+    Step {
+        entries: vec![(part, from, to)],
+        ins: vec![],
+        outs: vec![],
+    }
+}
+
+fn word(n: usize) -> [u8; 2] {
+    u16::try_from(n).expect("two bytes").to_le_bytes()
+}
+
+fn pairs(couplings: &[Coupling]) -> Vec<u8> {
+    couplings.iter().flat_map(|&(p, q)| [p, q]).collect()
+}
+
+fn step_bytes(step: &Step) -> Vec<u8> {
+    let mut bytes = vec![step.entries.len() as u8];
+    bytes.extend(
+        step.entries
+            .iter()
+            .flat_map(|&(part, from, to)| [part, from, to]),
+    );
+    for couplings in [&step.ins, &step.outs] {
+        bytes.push(couplings.len() as u8);
+        bytes.extend(pairs(couplings));
+    }
+    bytes
+}
+
+/// A sheet of two places and 64 parts, all at place 0.
+fn sheet(start: &[Coupling], steps: &[Step]) -> Vec<u8> {
+    let mut stretches = vec![vec![0; usize::from(PARTS)], pairs(start)];
+    stretches.extend(steps.iter().map(step_bytes));
+    let mut bytes = vec![1, 2, PARTS, steps.len() as u8];
+    let mut offset = 4 + 4 * stretches.len();
+    for stretch in &stretches {
+        bytes.extend(word(offset));
+        bytes.extend(word(stretch.len()));
+        offset += stretch.len();
+    }
+    bytes.extend(stretches.concat());
+    bytes
+}
+
+type Command = [u8; 3];
+
+const UNDO_LAST: Command = [2, 0, 0];
+
+fn fire(step: usize) -> Command {
+    let [low, high] = word(step);
+    [1, low, high]
+}
+
+fn undo(serial: usize) -> Command {
+    let [low, high] = word(serial);
+    [3, low, high]
+}
+
+fn write(folder: &Path, name: &str, sheet: &[u8], commands: impl Iterator<Item = Command>) {
+    let mut bytes = word(sheet.len()).to_vec();
+    bytes.extend_from_slice(sheet);
+    bytes.extend(commands.flatten());
+    std::fs::write(folder.join(name).with_extension("in"), bytes)
+        .expect("the folder can be written");
+}
+
+/// One firing on each part in turn.
+fn filled(n: usize) -> impl Iterator<Item = Command> {
+    (0..n).map(|i| fire(i % usize::from(PARTS)))
+}
+
+/// n live at most: n - 1 stand, and one more is fired and taken back.
+fn in_order(n: usize) -> impl Iterator<Item = Command> {
+    filled(n - 1)
+        .chain([fire(0), UNDO_LAST].into_iter().cycle())
+        .take(COMMANDS)
+}
+
+/// n live at most: the oldest that no later one blocks is taken back by its serial, and its step fires again.
+fn out_of_order(n: usize) -> impl Iterator<Item = Command> {
+    let mut next = 1;
+    // The last firing on each part, oldest first: these are the ones that nothing blocks.
+    let mut unblocked: VecDeque<(usize, usize)> = VecDeque::new();
+    let mut commands: Vec<Command> = filled(n).collect();
+    for i in 0..n {
+        let step = i % usize::from(PARTS);
+        unblocked.retain(|&(s, _)| s != step);
+        unblocked.push_back((step, next));
+        next += 1;
+    }
+    while commands.len() < COMMANDS {
+        let (step, serial) = unblocked.pop_front().expect("at least one is live");
+        commands.push(undo(serial));
+        commands.push(fire(step));
+        if n == 1 {
+            next = 1; // nothing was live, so serials begin again
+        }
+        unblocked.push_back((step, next));
+        next += 1;
+    }
+    commands.into_iter().take(COMMANDS)
+}
+
+/// 200 firings stand, and everything after them is refused.
+fn refusals() -> impl Iterator<Item = Command> {
+    let bad = [
+        fire(64),
+        undo(0),
+        undo(1),
+        [9, 0, 0],
+        [2, 1, 0],
+        undo(5_000),
+        fire(300),
+        fire(64 + 256),
+    ];
+    filled(200).chain(bad.into_iter().cycle()).take(COMMANDS)
+}
+
+fn main() {
+    let folder = std::env::args().nth(1).expect("inputs FOLDER");
+    let folder = Path::new(&folder);
+    let apart: Vec<Step> = (0..PARTS).map(|p| plain_step(p, 0, 0)).collect();
+    let apart = sheet(&[], &apart);
+    let there_and_back = [plain_step(0, 0, 1), plain_step(0, 1, 0)];
+    let all: Vec<Coupling> = (0..PARTS)
+        .flat_map(|p| (p + 1..PARTS).map(move |q| (p, q)))
+        .collect();
+    let line: Vec<Coupling> = (1..PARTS).map(|q| (q - 1, q)).collect();
+
+    write(folder, "start", &apart, std::iter::empty());
+    for n in [1, 64, 256] {
+        write(folder, &format!("live{n}"), &apart, in_order(n));
+        write(folder, &format!("middle{n}"), &apart, out_of_order(n));
+    }
+    write(
+        folder,
+        "all2016",
+        &sheet(&all, &there_and_back),
+        in_order(1),
+    );
+    write(
+        folder,
+        "chain63",
+        &sheet(&line, &there_and_back),
+        in_order(1),
+    );
+    write(folder, "refused", &apart, refusals());
+    let again = || [UNDO_LAST, fire(63)].into_iter().cycle();
+    write(folder, "single_before", &apart, filled(MOST_LIVE));
+    write(
+        folder,
+        "single",
+        &apart,
+        filled(MOST_LIVE).chain(again()).take(MOST_LIVE + SINGLE),
+    );
+}

@@ -1,0 +1,155 @@
+// Times two programs on the same inputs, sees that they write the same bytes, and prints a table in Markdown:
+// timing FOLDER REPEATS PROVED PLAIN SINGLY. A time is the processor time of a whole process, best of the repeats.
+
+mod usage;
+
+use std::fs::File;
+use std::path::{Path, PathBuf};
+use std::process::{exit, Command, Stdio};
+use std::time::Duration;
+use usage::time_of_children;
+
+const WHOLE: [(&str, &str); 9] = [
+    ("live1", "1 live, taken back in order"),
+    ("live64", "64 live, taken back in order"),
+    ("live256", "256 live, taken back in order"),
+    ("middle1", "1 live, taken back by serial"),
+    ("middle64", "64 live, the oldest free one taken back"),
+    ("middle256", "256 live, the oldest free one taken back"),
+    ("chain63", "64 parts in a chain of 63 couplings, all moved"),
+    ("all2016", "64 parts with all 2,016 couplings, all moved"),
+    ("refused", "200 live, then refusals only"),
+];
+
+/// The plain program ends in milliseconds, so it runs more often for a steady time.
+const PLAIN_RUNS: usize = 10;
+
+struct Bench {
+    folder: PathBuf,
+    repeats: usize,
+}
+
+/// A program, and the words after its name.
+type Program<'a> = (&'a Path, &'a [&'a str]);
+
+fn fail(what: &str) -> ! {
+    eprintln!("bench: {what}");
+    exit(1)
+}
+
+impl Bench {
+    fn input(&self, name: &str) -> PathBuf {
+        self.folder.join(name).with_extension("in")
+    }
+
+    /// One run; what it writes goes to a file.
+    fn once(&self, (program, words): Program, input: &str, output: &Path) -> Duration {
+        let from = File::open(self.input(input)).unwrap_or_else(|e| fail(&format!("{input}: {e}")));
+        let to =
+            File::create(output).unwrap_or_else(|e| fail(&format!("{}: {e}", output.display())));
+        let mut command = Command::new(program);
+        command
+            .args(words)
+            .stdin(Stdio::from(from))
+            .stdout(Stdio::from(to));
+        let before = time_of_children();
+        let status = command.status();
+        let took = time_of_children() - before;
+        match status {
+            Ok(s) if s.success() => took,
+            _ => fail(&format!("{} does not run on {input}", program.display())),
+        }
+    }
+
+    /// Both programs in turn on one input: the best time of each.
+    fn best(&self, proved: Program, plain: Program, input: &str) -> (Duration, Duration) {
+        let outputs = [
+            self.folder.join("proved.out"),
+            self.folder.join("plain.out"),
+        ];
+        let mut best = (Duration::MAX, Duration::MAX);
+        for _ in 0..self.repeats {
+            best.0 = best.0.min(self.once(proved, input, &outputs[0]));
+            for _ in 0..PLAIN_RUNS {
+                best.1 = best.1.min(self.once(plain, input, &outputs[1]));
+            }
+            let [a, b] = outputs
+                .each_ref()
+                .map(|o| std::fs::read(o).unwrap_or_else(|e| fail(&e.to_string())));
+            if a != b {
+                fail(&format!("the outputs differ on {input}"));
+            }
+        }
+        best
+    }
+
+    /// How many commands an input has.
+    fn commands(&self, name: &str) -> usize {
+        let bytes = std::fs::read(self.input(name)).unwrap_or_else(|e| fail(&e.to_string()));
+        let sheet = usize::from(u16::from_le_bytes([bytes[0], bytes[1]]));
+        (bytes.len() - 2 - sheet) / 3
+    }
+}
+
+fn row(what: &str, commands: usize, (proved, plain): (Duration, Duration)) {
+    let each = |d: Duration| d.as_nanos() as f64 / commands as f64;
+    let ratio = proved.as_secs_f64() / plain.as_secs_f64();
+    println!(
+        "| {what} | {commands} | {:.0} | {:.0} | {ratio:.1} |",
+        each(proved),
+        each(plain)
+    );
+}
+
+fn main() {
+    let words: Vec<String> = std::env::args().skip(1).collect();
+    let [folder, repeats, proved, plain, singly] = &words[..] else {
+        fail("timing FOLDER REPEATS PROVED PLAIN SINGLY");
+    };
+    let repeats = repeats
+        .parse()
+        .ok()
+        .filter(|&n| n > 0)
+        .unwrap_or_else(|| fail("how many repeats?"));
+    let bench = Bench {
+        folder: PathBuf::from(folder),
+        repeats,
+    };
+    let (proved, plain, singly) = (Path::new(proved), Path::new(plain), Path::new(singly));
+
+    let plain_runs = PLAIN_RUNS * repeats;
+    println!("Processor time of whole processes, best of {repeats} (plain: {plain_runs}); the outputs were equal.");
+    println!();
+    println!("| input | commands | proved, ns a command | plain Rust, ns a command | ratio |");
+    println!("|---|---|---|---|---|");
+    for (name, what) in WHOLE {
+        row(
+            what,
+            bench.commands(name),
+            bench.best((proved, &[]), (plain, &[]), name),
+        );
+    }
+    let alone = |input| bench.best((singly, &[]), (plain, &["singly"]), input);
+    let (before, whole) = (alone("single_before"), alone("single"));
+    let filled = bench.commands("single_before");
+    let timed = bench.commands("single") - filled;
+    let less = (
+        whole.0.saturating_sub(before.0),
+        whole.1.saturating_sub(before.1),
+    );
+    row(
+        "the single call, sheet and record checked, 256 live",
+        timed,
+        less,
+    );
+    let (a, b) = bench.best((proved, &[]), (plain, &[]), "start");
+    println!();
+    let micros = |d: Duration| d.as_secs_f64() * 1e6;
+    println!("Nothing is subtracted in the rows of whole lists: an input of no commands takes");
+    println!(
+        "{:.0} µs proved and {:.0} µs plain. The single call is the time of {filled} firings",
+        micros(a),
+        micros(b)
+    );
+    println!("and {timed} commands less that of the firings alone, divided by {timed}.");
+}
