@@ -1,10 +1,10 @@
 // Backtracking and causal-order reversal (document 004, Definitions 6, 7 and 11).
-use crate::labels::lay_rest;
 use crate::moving::copy;
 use crate::moving::put_in;
 use crate::moving::take_out;
-use crate::sets::get;
-use crate::sets::less;
+use oracle_net::labels::lay_rest;
+use oracle_net::sets::get;
+use oracle_net::sets::less;
 
 // 11(1): anything of F(t, x) that M(x) has not.
 pub fn missing(m: &[u64], outgoing: &[u64]) -> u64 {

@@ -1,13 +1,13 @@
 // Forward execution (document 004, Definitions 4 and 5), with document 01's numbers 13 to 16 in checking order.
 ghost use Prim.Native.Nat.{_≤_};
-use crate::con::cons;
 use crate::moving::copy;
 use crate::moving::join_labels;
 use crate::moving::put_in;
 use crate::moving::take_out;
-use crate::sets::bases_at;
-use crate::sets::get;
-use crate::sets::less;
+use oracle_net::con::cons;
+use oracle_net::sets::bases_at;
+use oracle_net::sets::get;
+use oracle_net::sets::less;
 
 // 4(1): the bases of F(x, t) that M(x) has not.
 fn lacking_bases(m: &[u64], incoming: &[u64]) -> u64 {

@@ -1,12 +1,12 @@
 // The history H and the dependence of occurrences (document 004, Definitions 8 to 10 and 12), in 1,536 words. An occurrence
 // has one of 256 slots: its key (0 where the slot is free), its transition, and four words with the slots that depend on it.
 ghost use Prim.Native.Nat.{_≤_, _<_};
-use crate::reader::arc_bases;
-use crate::sets::get;
-use crate::sets::join;
-use crate::sets::less;
-use crate::sets::only;
-use crate::sets::put;
+use oracle_net::reader::arc_bases;
+use oracle_net::sets::get;
+use oracle_net::sets::join;
+use oracle_net::sets::less;
+use oracle_net::sets::only;
+use oracle_net::sets::put;
 
 pub fn key_at(h: &[u64], slot: usize) -> u16 {
     (get(h, slot % 256) % 65536) as u16

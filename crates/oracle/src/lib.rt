@@ -1,15 +1,11 @@
 // A second engine, written from document 004, chapter 3, Definitions 2 to 7 and 9 to 12, under document 01's reading. It
 // shares no code with the other crates: programs compare the two. It is proved safe and ending for any bytes; that it
-// answers rightly is what the comparison is about. A state is two lent slices: a marking of 4,160 words (module sets) and a
+// answers rightly is what the comparison is about. A state is two lent slices: a marking of 4,160 words (crate oracle_net, sets) and a
 // history of 1,536 (module history). The sheet has been accepted.
 mod backward;
-mod con;
 mod forward;
 mod history;
-mod labels;
 mod moving;
-mod reader;
-mod sets;
 
 ghost use Prim.Native.Nat.{_≤_, _<_};
 use backward::missing;
@@ -25,19 +21,19 @@ use history::latest;
 use history::record;
 use history::slot_of;
 use history::transition_at;
-use labels::lay_base;
-use labels::lay_bonds;
-use labels::lay_incoming;
-use labels::lay_outgoing;
-use labels::lay_union;
-use reader::byte;
-use reader::count;
-use reader::index;
-use reader::start_bond_count;
-use reader::start_bonds;
-use reader::start_places;
-use reader::word;
-use sets::put;
+use oracle_net::labels::lay_base;
+use oracle_net::labels::lay_bonds;
+use oracle_net::labels::lay_incoming;
+use oracle_net::labels::lay_outgoing;
+use oracle_net::labels::lay_union;
+use oracle_net::reader::byte;
+use oracle_net::reader::count;
+use oracle_net::reader::index;
+use oracle_net::reader::start_bond_count;
+use oracle_net::reader::start_bonds;
+use oracle_net::reader::start_places;
+use oracle_net::reader::word;
+use oracle_net::sets::put;
 
 // The answer: 0 fired, 1 undone, else the number of document 01's list, or 99 where 11(1) fails alone, which document 01
 // leaves no room for. The key is 0 where the command is refused.
@@ -211,14 +207,14 @@ pub fn command(sheet: &[u8], bytes: &[u8], m: &mut [u64], h: &mut [u64]) -> Repl
 
 // The set of the places that have a base: in a right marking one place.
 pub fn homes(m: &[u64], base: usize) -> u64 {
-    sets::homes(m, base)
+    oracle_net::sets::homes(m, base)
 }
 
 // The set of the bases that are bonded to a base: in all places together, and in one.
 pub fn partners(m: &[u64], base: usize) -> u64 {
-    sets::partners(m, base)
+    oracle_net::sets::partners(m, base)
 }
 
 pub fn partners_in(m: &[u64], place: usize, base: usize) -> u64 {
-    sets::bonds_at(m, place, base)
+    oracle_net::sets::bonds_at(m, place, base)
 }
