@@ -103,8 +103,11 @@ pub fn to_of(p: Plan, seed: u64, t: u64, b: u64) -> u64 {
     below(mixed(seed, t, b, 3), p.places)
 }
 
-// Where base b starts: at 0 for a ring, else by lot.
+// Where base b starts: at 0 for a fork or a ring, else by lot.
 pub fn start_of(p: Plan, seed: u64, b: u64) -> u64 {
+    if p.route == FORK {
+        return 0;
+    }
     if RING <= p.route {
         return 0;
     }

@@ -1,8 +1,8 @@
 // Backtracking and causal-order reversal (document 004, Definitions 6, 7 and 11).
-use crate::moving::copy;
-use crate::moving::put_in;
-use crate::moving::take_out;
 use oracle_net::labels::lay_rest;
+use oracle_net::moving::copy;
+use oracle_net::moving::put_in;
+use oracle_net::moving::take_out;
 use oracle_net::sets::get;
 use oracle_net::sets::less;
 

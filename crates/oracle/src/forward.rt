@@ -1,10 +1,10 @@
 // Forward execution (document 004, Definitions 4 and 5), with document 01's numbers 13 to 16 in checking order.
 ghost use Prim.Native.Nat.{_≤_};
-use crate::moving::copy;
-use crate::moving::join_labels;
-use crate::moving::put_in;
-use crate::moving::take_out;
 use oracle_net::con::cons;
+use oracle_net::moving::copy;
+use oracle_net::moving::join_labels;
+use oracle_net::moving::put_in;
+use oracle_net::moving::take_out;
 use oracle_net::sets::bases_at;
 use oracle_net::sets::get;
 use oracle_net::sets::less;

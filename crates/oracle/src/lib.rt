@@ -1,11 +1,10 @@
 // A second engine, written from document 004, chapter 3, Definitions 2 to 7 and 9 to 12, under document 01's reading. It
 // shares no code with the other crates: programs compare the two. It is proved safe and ending for any bytes; that it
-// answers rightly is what the comparison is about. A state is two lent slices: a marking of 4,160 words (crate oracle_net, sets) and a
-// history of 1,536 (module history). The sheet has been accepted.
+// answers rightly is what the comparison is about. A state is two lent slices: a marking of 4,160 words (oracle_net, sets)
+// and a history of 1,536 (module history). The sheet has been accepted.
 mod backward;
 mod forward;
 mod history;
-mod moving;
 
 ghost use Prim.Native.Nat.{_≤_, _<_};
 use backward::missing;

@@ -1,13 +1,11 @@
 // Generated sessions on generated sheets, each command given to the engine and to the second engine (crate oracle), and
 // answer, key, places, bonds and tally compared. Prints for each kind of sheet how many commands were run and how many
 // differed, then how often each answer was met, and how many generated sheets were refused.
-mod commands;
-mod compare;
-mod play;
-
-use compare::Counts;
-use compare::none;
-use compare::together;
+use both_engines::compare::Counts;
+use both_engines::compare::none;
+use both_engines::compare::together;
+use both_engines::play::play_accepted;
+use both_engines::play::session_on;
 use generated::plan::APART;
 use generated::plan::FORK;
 use generated::plan::GROUPS;
@@ -17,7 +15,6 @@ use generated::plan::TOGETHER;
 use generated::plan::of;
 use generated::plan::varied;
 use generated::plan::with;
-use play::session_on;
 
 fn print_counts(name: &[u8], run: u64, differed: u64) {
     io::write_all(1, name);
@@ -43,6 +40,34 @@ fn group(name: &[u8], p: Plan, count: u64, n: u64, room: usize, all: Counts) -> 
     let c = sessions(p, count, n, room);
     print_counts(name, c.run, c.differed);
     together(all, c)
+}
+
+// Sessions on one sheet.
+fn on_sheet(name: &[u8], sheet: &[u8], count: u64, all: Counts) -> Counts {
+    let mut c = none();
+    let mut s: u64 = 0;
+    while s < count {
+        c = play_accepted(c, sheet, s, 60, 6);
+        s += 1;
+    }
+    print_counts(name, c.run, c.differed);
+    together(all, c)
+}
+
+// Document 01's sheets A and B.
+fn printed() -> Counts {
+    let a = on_sheet(
+        b"sheet A",
+        b"\x01\x02\x03\x02\x14\x00\x03\x00\x17\x00\x00\x00\x17\x00\x0b\x00\x22\x00\x06\x00\x00\x00\x00\x02\x00\x00\x01\x01\x00\x01\x00\x01\x00\x01\x01\x02\x00\x01\x00\x00",
+        40,
+        none(),
+    );
+    on_sheet(
+        b"sheet B",
+        b"\x01\x03\x04\x06\x24\x00\x04\x00\x28\x00\x02\x00\x2a\x00\x0b\x00\x35\x00\x06\x00\x3b\x00\x06\x00\x41\x00\x09\x00\x4a\x00\x0b\x00\x55\x00\x0d\x00\x00\x00\x00\x00\x02\x03\x02\x00\x00\x01\x02\x00\x01\x00\x01\x00\x02\x01\x03\x01\x02\x00\x00\x01\x01\x00\x00\x00\x00\x02\x02\x00\x01\x03\x00\x02\x00\x00\x02\x02\x00\x00\x03\x00\x00\x00\x01\x02\x03\x02\x00\x00\x00\x01\x00\x00\x01\x00\x01\x01\x00\x01",
+        80,
+        a,
+    )
 }
 
 fn print_count(name: &[u8], n: u64) {
@@ -71,7 +96,7 @@ fn print_answers(c: Counts) {
 // Each line: the counts that a sheet has at most (places, bases, transitions), its route; the chances of entries and bonds;
 // sessions, commands of each, and the live firings above which most commands take back.
 fn groups() -> Counts {
-    let mut t = none();
+    let mut t = printed();
     t = group(b"tiny", of(3, 4, 4, APART), 200, 60, 6, t);
     t = group(
         b"dense",

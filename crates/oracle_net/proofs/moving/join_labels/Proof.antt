@@ -1,11 +1,11 @@
--- `oracle::moving::join_labels` meets its contract. The counter stays within its bound, and lent slices keep their length.
+-- `oracle_net::moving::join_labels` meets its contract. The counter stays within its bound, and lent slices keep their length.
 -- Assumes nothing.
 use borrow.Author.Needs.{needs}
 use mathlib.Core.Path.{_≡_}
 use Prim.Native.Nat.{_-_, _≤_}
 use lib.ListN.{length}
-use Rattle.oracle.proofs.moving.join_labels.Statement.{statement}
-use Rattle.oracle.proofs.moving.join_labels.Tie as tie
+use Rattle.oracle_net.proofs.moving.join_labels.Statement.{statement}
+use Rattle.oracle_net.proofs.moving.join_labels.Tie as tie
 
 abbrev Inv-loop : tie.InvT-loop
 Inv-loop new₀ labels i₀ new i = (i ≤ 4160) × (length new ≡ length new₀)

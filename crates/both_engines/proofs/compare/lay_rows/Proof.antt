@@ -1,11 +1,11 @@
--- `session_cases::compare::lay_rows` meets its contract. The counter stays within its bound, and lent slices keep their length.
+-- `both_engines::compare::lay_rows` meets its contract. The counter stays within its bound, and lent slices keep their length.
 -- Assumes nothing.
 use borrow.Author.Needs.{needs}
 use mathlib.Core.Path.{_≡_}
 use Prim.Native.Nat.{_-_, _≤_}
 use lib.ListN.{length}
-use Rattle.session_cases.proofs.compare.lay_rows.Statement.{statement}
-use Rattle.session_cases.proofs.compare.lay_rows.Tie as tie
+use Rattle.both_engines.proofs.compare.lay_rows.Statement.{statement}
+use Rattle.both_engines.proofs.compare.lay_rows.Tie as tie
 
 abbrev Inv-loop : tie.InvT-loop
 Inv-loop rows₀ lo hi n i₀ rows i = (i ≤ 2016) × (length rows ≡ length rows₀)

@@ -1,17 +1,17 @@
--- `oracle::moving::bring_to` meets its contract. The counter stays within its bound, and lent slices keep their length.
+-- `oracle_net::moving::take_from` meets its contract. The counter stays within its bound, and lent slices keep their length.
 -- Assumes nothing.
 use borrow.Author.Needs.{needs}
 use mathlib.Core.Path.{_≡_}
 use Prim.Native.Nat.{_-_, _≤_}
 use lib.ListN.{length}
-use Rattle.oracle.proofs.moving.bring_to.Statement.{statement}
-use Rattle.oracle.proofs.moving.bring_to.Tie as tie
+use Rattle.oracle_net.proofs.moving.take_from.Statement.{statement}
+use Rattle.oracle_net.proofs.moving.take_from.Tie as tie
 
 abbrev Inv-loop : tie.InvT-loop
-Inv-loop new₀ place m old-place set r₀ new r = (r ≤ 65) × (length new ≡ length new₀)
+Inv-loop new₀ place set r₀ new r = (r ≤ 65) × (length new ≡ length new₀)
 
 abbrev μ-loop : tie.MeasureT-loop
-μ-loop new₀ place m old-place set r₀ new r = 65 - r
+μ-loop new₀ place set r₀ new r = 65 - r
 
 loop-holds : tie.Need-loop-holds Inv-loop μ-loop
 loop-holds c = search needs
@@ -22,14 +22,11 @@ cell-requires c κs = search needs
 get-requires : tie.Need-get-requires Inv-loop μ-loop
 get-requires c κs = search needs
 
-cell-requires-2 : tie.Need-cell-requires-2 Inv-loop μ-loop
-cell-requires-2 c κs = search needs
+without-requires : tie.Need-without-requires Inv-loop μ-loop
+without-requires c κs = search needs
 
-brought-requires : tie.Need-brought-requires Inv-loop μ-loop
-brought-requires c κs = search needs
-
-join-requires : tie.Need-join-requires Inv-loop μ-loop
-join-requires c κs = search needs
+put-requires : tie.Need-put-requires Inv-loop μ-loop
+put-requires c κs = search needs
 
 add-r : tie.Need-add-r Inv-loop μ-loop
 add-r c = search needs
@@ -46,8 +43,8 @@ same-length c = search needs
 returns : tie.Need-returns Inv-loop μ-loop
 returns c = search needs
 
-pub bring-to-spec : {M : Type 1} → statement M
-bring-to-spec =
+pub take-from-spec : {M : Type 1} → statement M
+take-from-spec =
     tie.close
     (tie.spec
     Inv-loop
@@ -55,9 +52,8 @@ bring-to-spec =
     loop-holds
     cell-requires
     get-requires
-    cell-requires-2
-    brought-requires
-    join-requires
+    without-requires
+    put-requires
     add-r
     loop-less
     loop-again

@@ -1,13 +1,13 @@
 // Components taken out of places and put into others (document 004, Definitions 5 and 7). All are taken out before any is
 // put in, so that a place on both sides keeps what comes back (document 01's reading: a step from a place to itself).
-use oracle_net::con::cons;
-use oracle_net::sets::bases_at;
-use oracle_net::sets::cell;
-use oracle_net::sets::get;
-use oracle_net::sets::has;
-use oracle_net::sets::join;
-use oracle_net::sets::less;
-use oracle_net::sets::put;
+use crate::con::cons;
+use crate::sets::bases_at;
+use crate::sets::cell;
+use crate::sets::get;
+use crate::sets::has;
+use crate::sets::join;
+use crate::sets::less;
+use crate::sets::put;
 
 pub fn copy(new: &mut [u64], m: &[u64]) {
     let mut i: usize = 0;

@@ -1,9 +1,9 @@
--- `session_cases::compare::same_marking` meets its contract. The counter stays within its bound.
+-- `both_engines::compare::same_marking` meets its contract. The counter stays within its bound.
 -- Assumes nothing.
 use borrow.Author.Needs.{needs}
 use Prim.Native.Nat.{_-_, _≤_}
-use Rattle.session_cases.proofs.compare.same_marking.Statement.{statement}
-use Rattle.session_cases.proofs.compare.same_marking.Tie as tie
+use Rattle.both_engines.proofs.compare.same_marking.Statement.{statement}
+use Rattle.both_engines.proofs.compare.same_marking.Tie as tie
 
 abbrev Inv-loop : tie.InvT-loop
 Inv-loop theirs rows bases places ok₀ b₀ ok b = b ≤ 64

@@ -1,11 +1,11 @@
--- `oracle::moving::bring_from` meets its contract. The counter stays within its bound, and lent slices keep their length.
+-- `oracle_net::moving::bring_from` meets its contract. The counter stays within its bound, and lent slices keep their length.
 -- Assumes nothing.
 use borrow.Author.Needs.{needs}
 use mathlib.Core.Path.{_≡_}
 use Prim.Native.Nat.{_-_, _≤_}
 use lib.ListN.{length}
-use Rattle.oracle.proofs.moving.bring_from.Statement.{statement}
-use Rattle.oracle.proofs.moving.bring_from.Tie as tie
+use Rattle.oracle_net.proofs.moving.bring_from.Statement.{statement}
+use Rattle.oracle_net.proofs.moving.bring_from.Tie as tie
 
 abbrev Inv-loop : tie.InvT-loop
 Inv-loop new₀ m to old-place named x₀ new x = (x ≤ 64) × (length new ≡ length new₀)

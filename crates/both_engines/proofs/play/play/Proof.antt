@@ -1,11 +1,11 @@
--- `session_cases::play::play` meets its contract. The counter stays within its bound, and lent slices keep their length.
+-- `both_engines::play::play` meets its contract. The counter stays within its bound, and lent slices keep their length.
 -- Assumes nothing.
 use borrow.Author.Needs.{needs}
 use mathlib.Core.Path.{_≡_}
 use Prim.Native.Nat.{_-_, _≤_}
 use lib.ListN.{length}
-use Rattle.session_cases.proofs.play.play.Statement.{statement}
-use Rattle.session_cases.proofs.play.play.Tie as tie
+use Rattle.both_engines.proofs.play.play.Statement.{statement}
+use Rattle.both_engines.proofs.play.play.Tie as tie
 
 abbrev Inv-loop : tie.InvT-loop
 Inv-loop sheet seed n room m₀ h₀ p₀ i₀ m h p i = (i ≤ n) × (length m ≡ length m₀) × (length h ≡ length h₀)

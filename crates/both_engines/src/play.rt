@@ -110,7 +110,7 @@ fn play(
 }
 
 // Plays on an accepted sheet; a refused one is counted, and no command is given on it.
-fn play_accepted(c: Counts, sheet: &[u8], seed: u64, n: u64, room: usize) -> Counts {
+pub fn play_accepted(c: Counts, sheet: &[u8], seed: u64, n: u64, room: usize) -> Counts {
     let mut m = [0u64; 4160];
     let mut h = [0u64; 1536];
     let first = start(sheet);

@@ -1,11 +1,11 @@
--- `oracle::moving::put_in` meets its contract. The counter stays within its bound, and lent slices keep their length.
+-- `oracle_net::moving::put_in` meets its contract. The counter stays within its bound, and lent slices keep their length.
 -- Assumes nothing.
 use borrow.Author.Needs.{needs}
 use mathlib.Core.Path.{_≡_}
 use Prim.Native.Nat.{_-_, _≤_}
 use lib.ListN.{length}
-use Rattle.oracle.proofs.moving.put_in.Statement.{statement}
-use Rattle.oracle.proofs.moving.put_in.Tie as tie
+use Rattle.oracle_net.proofs.moving.put_in.Statement.{statement}
+use Rattle.oracle_net.proofs.moving.put_in.Tie as tie
 
 abbrev Inv-loop : tie.InvT-loop
 Inv-loop new₀ m from to y₀ new y = (y ≤ 64) × (length new ≡ length new₀)
