@@ -1,4 +1,5 @@
-// A session under test: the record and the tally that the command before left, and how many commands were run and differed.
+// A session under test: the record and the tally that the command before left, how many commands were run and differed, and
+// which answers were seen where they were expected.
 // Each command is the customer's call with a lent tally. Its answer and key are compared with those worked out from
 // document 01; the tally has one more in one count, and a refused command hands back the very record.
 mod same;
@@ -16,6 +17,7 @@ pub struct Case {
     pub tally: Tally,
     pub run: u16,
     pub differed: u16,
+    pub seen: u32,
 }
 
 fn more(n: u16) -> u16 {
@@ -32,10 +34,23 @@ pub fn counted(c: Case, same: bool) -> Case {
     next
 }
 
-// An answer as a number: a refusal's own, from 1 to 22, and two others.
-pub const FIRED: u8 = 100;
+fn only(code: u8) -> u32 {
+    1u32 << (code % 32)
+}
 
-pub const UNDONE: u8 = 101;
+// The same for an answer of that code, which is then among those seen.
+pub fn answered(c: Case, code: u8, same: bool) -> Case {
+    let mut next = counted(c, same);
+    if same {
+        next.seen = next.seen | only(code);
+    }
+    next
+}
+
+// An answer as a number: a refusal's own, from 1 to 22, and two others.
+pub const FIRED: u8 = 30;
+
+pub const UNDONE: u8 = 31;
 
 fn code_of(a: Answer) -> u8 {
     match a {
@@ -74,10 +89,10 @@ pub fn given(c: Case, sheet: &[u8], bytes: &[u8], code: u8, key: u16) -> Case {
     let a = o.answer;
     let s = o.session;
     let kept = same_record(r, s);
-    let answered = (code_of(a) == code) & (o.key.0 == key);
+    let met = (code_of(a) == code) & (o.key.0 == key);
     let u = after.tally;
     let told = tally_follows(t, u, code);
-    let mut next = counted(c, answered & (told & (kept | (FIRED <= code))));
+    let mut next = answered(c, code, met & (told & (kept | (FIRED <= code))));
     next.session = s;
     next.tally = u;
     next
@@ -104,6 +119,7 @@ pub fn on(r: Record) -> Case {
         tally: zeros(),
         run: 0,
         differed: 0,
+        seen: 0,
     }
 }
 
@@ -132,12 +148,32 @@ pub fn with_record(c: Case, r: Record) -> Case {
     next
 }
 
-// How many of a group were run, and how many differed.
-pub fn print(name: &[u8], c: Case) {
+// Whether an answer is among those seen.
+fn print_seen(seen: u32, code: u8) {
+    if (seen >> (code % 32)) % 2 == 1 {
+        io::write_all(1, b" ");
+        io::print_decimal(1, code as u64);
+    }
+}
+
+// The refusals among those seen, in their order.
+pub fn print_refusals(seen: u32) {
+    io::write_all(1, b"refusals seen:");
+    let mut code: u8 = 1;
+    while code < 30 {
+        print_seen(seen, code);
+        code += 1;
+    }
+    io::write_all(1, b"\n");
+}
+
+// How many of a group were run, and how many differed; answers which answers were seen, these and others.
+pub fn print(name: &[u8], c: Case, others: u32) -> u32 {
     io::write_all(1, name);
     io::write_all(1, b": ");
     io::print_decimal(1, c.run as u64);
     io::write_all(1, b" run, ");
     io::print_decimal(1, c.differed as u64);
     io::write_all(1, b" differed\n");
+    c.seen | others
 }

@@ -1,6 +1,6 @@
 // The answer line into lent buffers (document 01, the turned-away list, 22; the exam program).
 use command_case::Case;
-use command_case::counted;
+use command_case::answered;
 use net::Key;
 use report::answer_line;
 use session::Answer;
@@ -35,10 +35,8 @@ fn lined(
 ) -> Case {
     let w = answer_line(buf, number, a, Key(key));
     let same = holds(buf, line);
-    counted(
-        c,
-        same & ((w.refusal == refusal) & (w.length == line.len())),
-    )
+    let ok = same & ((w.refusal == refusal) & (w.length == line.len()));
+    answered(c, refusal, ok)
 }
 
 // Buffers of 0, 23, 24 and 25 bytes; the longest line has 24. A refusal's line has its number, not the key.

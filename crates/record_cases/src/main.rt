@@ -43,7 +43,8 @@ fn is_tally(t: Tally, fired: u16, undone: u16, refused: u16) -> bool {
     (t.fired == fired) & ((t.undone == undone) & (t.refused == refused))
 }
 
-// Counts at 65,534 go to 65,535, each by its own command, and stay there. Step 2 of sheet B always fires; serial 9 is not live.
+// Counts at 65,534 go to 65,535, each by its own command, and stay there. Step 2 of sheet B always fires, and no firing
+// has serial 9.
 fn tallies(b: &[u8]) -> Case {
     let mut c = with_tally(begun(b), tally_of(65534));
     c = command(c, b, 1, 2, FIRED, 1);
@@ -67,13 +68,13 @@ fn tallies(b: &[u8]) -> Case {
 
 fn on_b(b: &[u8]) {
     let c = after_m4(b);
-    print(b"places", altered::places(c, b));
-    print(b"couplings", altered::bonds(c, b));
-    print(b"live", altered::live(c, b));
-    print(b"steps", altered::transitions(c, b));
-    print(b"serials", altered::keys(c, b));
-    print(b"moved parts and order", altered::moved(c, b));
-    print(b"tallies", tallies(b));
+    print(b"places", altered::places(c, b), 0);
+    print(b"couplings", altered::bonds(c, b), 0);
+    print(b"live", altered::live(c, b), 0);
+    print(b"steps", altered::transitions(c, b), 0);
+    print(b"serials", altered::keys(c, b), 0);
+    print(b"moved parts and order", altered::moved(c, b), 0);
+    print(b"tallies", tallies(b), 0);
 }
 
 // Sheet D has two parts at 0, and steps 0 and 1 alike (part 0 from 0 to 1), so that one may stand for the other; step 2 is
@@ -84,7 +85,7 @@ fn on_d(d: &[u8]) {
     let mut c = on(r);
     c = tried(c, d, with_transition(r, 0, 1), UNDONE, 1);
     c = tried(c, d, with_transition(r, 0, 2), 10, 0);
-    print(b"a step for its like", c);
+    print(b"a step for its like", c, 0);
 }
 
 fn main() {
