@@ -1,6 +1,5 @@
 // The commands of a generated session: firings and takings back by lot, among them commands that are refused as such.
 ghost use Prim.Native.Nat.{_≤_};
-use firings::Firing;
 use generated::random::below;
 use generated::random::mixed;
 use session::Record;

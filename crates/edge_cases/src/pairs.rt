@@ -32,7 +32,8 @@ pub fn blocked(c: Case, p: &[u8]) -> Case {
     command(d, p, 1, 65535, 12, 0)
 }
 
-// Commands that cannot be read (11) and those cut short (21), whatever their bytes are. None of them looks at the record.
+// Commands that cannot be read (11) and those cut short (21), whatever their bytes are. Nothing is live: a kind 2 with a
+// number is 11, and not 19; a short one with a bad kind is 21, and not 11.
 pub fn unreadable(c: Case, p: &[u8]) -> Case {
     let mut d = command(c, p, 0, 0, 11, 0);
     d = command(d, p, 4, 0, 11, 0);

@@ -6,7 +6,7 @@ mod backward;
 mod forward;
 mod history;
 
-ghost use Prim.Native.Nat.{_≤_, _<_};
+ghost use Prim.Native.Nat.{_≤_};
 use backward::missing;
 use backward::reverse;
 use forward::execute;
