@@ -1,0 +1,76 @@
+// 256 live firings and serial 65,535, on sheet P (pairs.rt says what its transitions are).
+use crate::pairs::blocked;
+use command_case::Case;
+use command_case::FIRED;
+use command_case::UNDONE;
+use command_case::begun;
+use command_case::command;
+use net::Key;
+
+// 11 once, and 10 until 256 are live.
+fn full(p: &[u8]) -> Case {
+    let mut c = command(begun(p), p, 1, 11, FIRED, 1);
+    let mut i: u16 = 0;
+    while i < 255 {
+        c = command(c, p, 1, 10, FIRED, i + 2);
+        i += 1;
+    }
+    c
+}
+
+// The 257th is 17, where nothing earlier holds; one taken back, from the middle or the last, makes space again.
+pub fn many_live(p: &[u8]) -> Case {
+    let mut c = full(p);
+    c = command(c, p, 1, 10, 17, 0);
+    c = command(c, p, 1, 11, 17, 0);
+    c = blocked(c, p);
+    // the highest live serial is 256, so the next is 257
+    c = command(c, p, 3, 1, UNDONE, 1);
+    c = command(c, p, 1, 11, FIRED, 257);
+    c = command(c, p, 1, 11, 17, 0);
+    c = command(c, p, 3, 256, UNDONE, 256);
+    c = command(c, p, 3, 257, UNDONE, 257);
+    c = command(c, p, 1, 10, FIRED, 256);
+    c = command(c, p, 2, 0, UNDONE, 256);
+    command(c, p, 2, 0, UNDONE, 255)
+}
+
+// The record with another serial in a live firing.
+fn with_key(c: Case, i: usize, key: u16) -> Case {
+    let mut d = c;
+    let mut r = c.session;
+    if i < 256 {
+        let mut f = r.firings[i];
+        let k = Key(key);
+        f.key = k;
+        r.firings[i] = f;
+    }
+    d.session = r;
+    d
+}
+
+// From a record handed in whose serial was raised: 65,535 is given, the next is 18, where nothing earlier holds; taken back
+// it is given again. With nothing live the serial is 1.
+pub fn last_key(p: &[u8]) -> Case {
+    let mut c = command(begun(p), p, 1, 11, FIRED, 1);
+    c = with_key(c, 0, 65534);
+    c = command(c, p, 1, 10, FIRED, 65535);
+    c = command(c, p, 1, 10, 18, 0);
+    c = command(c, p, 1, 11, 18, 0);
+    c = blocked(c, p);
+    c = command(c, p, 3, 65535, UNDONE, 65535);
+    c = command(c, p, 1, 11, FIRED, 65535);
+    c = command(c, p, 3, 65534, 20, 0);
+    c = command(c, p, 2, 0, UNDONE, 65535);
+    c = command(c, p, 2, 0, UNDONE, 65534);
+    command(c, p, 1, 11, FIRED, 1)
+}
+
+// 256 live, the last with serial 65,535: 17 comes before 18.
+pub fn both(p: &[u8]) -> Case {
+    let mut c = with_key(full(p), 255, 65535);
+    c = command(c, p, 1, 10, 17, 0);
+    c = command(c, p, 3, 1, UNDONE, 1);
+    c = command(c, p, 1, 10, 18, 0);
+    command(c, p, 2, 0, UNDONE, 65535)
+}

@@ -1,0 +1,147 @@
+// What a generated sheet is like: its counts, how its arcs go, and how often entries and bonds occur, of 16. From these and
+// a seed it follows which base is an entry of which transition, its places, and which bonds there are.
+use crate::random::below;
+use crate::random::falls;
+use crate::random::mixed;
+use crate::random::over;
+
+pub struct Plan {
+    pub places: u64,
+    pub bases: u64,
+    pub transitions: u64,
+    pub route: u64,
+    pub entries: u64,
+    pub start: u64,
+    pub incoming: u64,
+    pub outgoing: u64,
+}
+
+// Routes: each entry has places of its own; the entries of a transition come from one place and go to several; they go
+// together; they go together around a ring of places; the same, each transition for two bases of its own group.
+pub const APART: u64 = 0;
+
+pub const FORK: u64 = 1;
+
+pub const TOGETHER: u64 = 2;
+
+pub const RING: u64 = 3;
+
+pub const GROUPS: u64 = 4;
+
+pub fn of(places: u64, bases: u64, transitions: u64, route: u64) -> Plan {
+    Plan {
+        places: places,
+        bases: bases,
+        transitions: transitions,
+        route: route,
+        entries: 6,
+        start: 2,
+        incoming: 1,
+        outgoing: 4,
+    }
+}
+
+// The same with other chances: of an entry, a start bond, an in-bond, an out-bond.
+pub fn with(p: Plan, entries: u64, start: u64, incoming: u64, outgoing: u64) -> Plan {
+    let mut q = p;
+    q.entries = entries;
+    q.start = start;
+    q.incoming = incoming;
+    q.outgoing = outgoing;
+    q
+}
+
+// Counts by lot, up to those of the plan; every eighth seed has the plan's own.
+pub fn varied(p: Plan, seed: u64) -> Plan {
+    let mut q = p;
+    if seed % 8 == 0 {
+        return q;
+    }
+    q.places = below(mixed(seed, 0, 0, 7), p.places) % 64 + 1;
+    q.bases = below(mixed(seed, 1, 0, 7), p.bases) % 64 + 1;
+    q.transitions = below(mixed(seed, 2, 0, 7), p.transitions) % 64 + 1;
+    q
+}
+
+// Whether base b is an entry of transition t: by lot, and one base always.
+pub fn enters(p: Plan, seed: u64, t: u64, b: u64) -> bool {
+    if p.route == GROUPS {
+        return b / 2 == below(t, p.bases / 2);
+    }
+    if b == below(t, p.bases) {
+        return true;
+    }
+    falls(mixed(seed, t, b, 1), p.entries)
+}
+
+// How far around the ring transition t begins.
+fn turn(p: Plan, t: u64) -> u64 {
+    if p.route == GROUPS {
+        return over(t, p.bases / 2);
+    }
+    t
+}
+
+// The in-place and the out-place of base b in transition t.
+pub fn from_of(p: Plan, seed: u64, t: u64, b: u64) -> u64 {
+    if RING <= p.route {
+        return below(turn(p, t), p.places);
+    }
+    if FORK <= p.route {
+        return below(mixed(seed, t, 0, 2), p.places);
+    }
+    below(mixed(seed, t, b, 2), p.places)
+}
+
+pub fn to_of(p: Plan, seed: u64, t: u64, b: u64) -> u64 {
+    if RING <= p.route {
+        return below(turn(p, t) % 64 + 1, p.places);
+    }
+    if TOGETHER <= p.route {
+        return below(mixed(seed, t, 0, 3), p.places);
+    }
+    below(mixed(seed, t, b, 3), p.places)
+}
+
+// Where base b starts: at 0 for a fork or a ring, else by lot.
+pub fn start_of(p: Plan, seed: u64, b: u64) -> u64 {
+    if p.route == FORK {
+        return 0;
+    }
+    if RING <= p.route {
+        return 0;
+    }
+    below(mixed(seed, b, 0, 4), p.places)
+}
+
+pub fn starts_bonded(p: Plan, seed: u64, a: u64, b: u64) -> bool {
+    if start_of(p, seed, a) != start_of(p, seed, b) {
+        return false;
+    }
+    falls(mixed(seed, a, b, 5), p.start)
+}
+
+// Whether the bond a-b of two entries is an in-bond of transition t. It is an out-bond then, so that both places agree.
+fn comes(p: Plan, seed: u64, t: u64, a: u64, b: u64) -> bool {
+    if from_of(p, seed, t, a) != from_of(p, seed, t, b) {
+        return false;
+    }
+    falls(mixed(seed, t, a, b % 64 + 100), p.incoming)
+}
+
+// Whether the bond a-b is among the in-bonds of transition t, or among its out-bonds.
+pub fn bonded(p: Plan, seed: u64, t: u64, a: u64, b: u64, outgoing: bool) -> bool {
+    if !enters(p, seed, t, a) {
+        return false;
+    }
+    if !enters(p, seed, t, b) {
+        return false;
+    }
+    if to_of(p, seed, t, a) != to_of(p, seed, t, b) {
+        return false;
+    }
+    if comes(p, seed, t, a, b) {
+        return true;
+    }
+    outgoing & falls(mixed(seed, t, a, b % 64 + 200), p.outgoing)
+}

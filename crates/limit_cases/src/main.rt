@@ -1,0 +1,69 @@
+// How many commands the exam program reads (document 01, the exam program): 65,535 whole commands with two more bytes behind
+// them, one whole command fewer, and one more. Prints how long each output is, and its end. Worked out from document 01.
+use output::MAX_OUTPUT;
+use output::write_output;
+use text::put_word;
+
+// Room for the sheet's length, sheet A and 65,536 commands.
+const ROOM: usize = 196650;
+
+// Bytes that no command has as its kind, everywhere.
+fn unreadable() -> [u8; ROOM] {
+    [9; ROOM]
+}
+
+fn output_room() -> [u8; MAX_OUTPUT] {
+    [0; MAX_OUTPUT]
+}
+
+// Sheet A with its length in front: 42 bytes.
+fn put_sheet(buf: &mut [u8]) -> usize {
+    if buf.len() < 42 {
+        return 0;
+    }
+    put_word(
+        buf,
+        0,
+        &[
+            40, 0, 1, 2, 3, 2, 20, 0, 3, 0, 23, 0, 0, 0, 23, 0, 11, 0, 34, 0, 6, 0, 0, 0, 0, 2, 0, 0,
+            1, 1, 0, 1, 0, 1, 0, 1, 1, 2, 0, 1, 0, 0,
+        ],
+    )
+}
+
+// The last bytes of a text.
+fn print_end(text: &[u8], from: usize) {
+    if from <= text.len() {
+        io::write_all(1, &text[from..]);
+    }
+}
+
+// Prints the length of a text, and its end.
+fn print_text(text: &[u8], end: usize) {
+    let n = text.len();
+    io::print_decimal(1, n as u64);
+    io::write_all(1, b" bytes, at the end\n");
+    if end <= n {
+        print_end(text, n - end);
+    }
+}
+
+// The output of the first n bytes of an input.
+fn run_case(input: &[u8], n: usize, end: usize) {
+    let mut out = output_room();
+    if n <= input.len() {
+        let length = write_output(&input[..n], &mut out);
+        print_text(&out[..length], end);
+    }
+}
+
+fn main() {
+    let mut input = unreadable();
+    put_sheet(&mut input);
+    io::write_all(1, b"65,535 commands and two bytes: ");
+    run_case(&input, 196649, 51);
+    io::write_all(1, b"65,534 commands and two bytes: ");
+    run_case(&input, 196646, 51);
+    io::write_all(1, b"65,536 commands: ");
+    run_case(&input, 196650, 51);
+}

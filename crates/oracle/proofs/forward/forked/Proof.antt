@@ -1,0 +1,35 @@
+-- `oracle::forward::forked` meets its contract. The counter stays within its bound.
+-- Assumes nothing.
+use borrow.Author.Needs.{needs}
+use Prim.Native.Nat.{_-_, _≤_}
+use Rattle.oracle.proofs.forward.forked.Statement.{statement}
+use Rattle.oracle.proofs.forward.forked.Tie as tie
+
+abbrev Inv-loop : tie.InvT-loop
+Inv-loop m outgoing post all₀ y₀ all y = y ≤ 64
+
+abbrev μ-loop : tie.MeasureT-loop
+μ-loop m outgoing post all₀ y₀ all y = 64 - y
+
+loop-holds : tie.Need-loop-holds Inv-loop μ-loop
+loop-holds c = search needs
+
+forked-at-requires : tie.Need-forked-at-requires Inv-loop μ-loop
+forked-at-requires c κs = search needs
+
+add-y : tie.Need-add-y Inv-loop μ-loop
+add-y c = search needs
+
+loop-less : tie.Need-loop-less Inv-loop μ-loop
+loop-less c = search needs
+
+loop-again : tie.Need-loop-again Inv-loop μ-loop
+loop-again c = search needs
+
+returns : tie.Need-returns Inv-loop μ-loop
+returns c = search needs
+
+pub forked-spec : {M : Type 1} → statement M
+forked-spec =
+    tie.close
+    (tie.spec Inv-loop μ-loop loop-holds forked-at-requires add-y loop-less loop-again returns)

@@ -1,0 +1,35 @@
+-- `oracle::forward::repeated` meets its contract. The counter stays within its bound.
+-- Assumes nothing.
+use borrow.Author.Needs.{needs}
+use Prim.Native.Nat.{_-_, _≤_}
+use Rattle.oracle.proofs.forward.repeated.Statement.{statement}
+use Rattle.oracle.proofs.forward.repeated.Tie as tie
+
+abbrev Inv-loop : tie.InvT-loop
+Inv-loop m incoming post all₀ i₀ all i = i ≤ 4160
+
+abbrev μ-loop : tie.MeasureT-loop
+μ-loop m incoming post all₀ i₀ all i = 4160 - i
+
+loop-holds : tie.Need-loop-holds Inv-loop μ-loop
+loop-holds c = search needs
+
+repeated-at-requires : tie.Need-repeated-at-requires Inv-loop μ-loop
+repeated-at-requires c κs = search needs
+
+add-i : tie.Need-add-i Inv-loop μ-loop
+add-i c = search needs
+
+loop-less : tie.Need-loop-less Inv-loop μ-loop
+loop-less c = search needs
+
+loop-again : tie.Need-loop-again Inv-loop μ-loop
+loop-again c = search needs
+
+returns : tie.Need-returns Inv-loop μ-loop
+returns c = search needs
+
+pub repeated-spec : {M : Type 1} → statement M
+repeated-spec =
+    tie.close
+    (tie.spec Inv-loop μ-loop loop-holds repeated-at-requires add-i loop-less loop-again returns)

@@ -1,0 +1,47 @@
+-- `oracle::history::slot_of` meets its contract. The counter stays within its bound.
+-- Assumes nothing.
+use borrow.Author.Needs.{needs}
+use Prim.Native.Nat.{_-_, _≤_}
+use Rattle.oracle.proofs.history.slot_of.Statement.{statement}
+use Rattle.oracle.proofs.history.slot_of.Tie as tie
+
+abbrev Inv-loop : tie.InvT-loop
+Inv-loop h key s₀ s = s ≤ 256
+
+abbrev μ-loop : tie.MeasureT-loop
+μ-loop h key s₀ s = 256 - s
+
+loop-holds : tie.Need-loop-holds Inv-loop μ-loop
+loop-holds c = search needs
+
+key-at-requires : tie.Need-key-at-requires Inv-loop μ-loop
+key-at-requires c κs = search needs
+
+returns : tie.Need-returns Inv-loop μ-loop
+returns c = search needs
+
+add-s : tie.Need-add-s Inv-loop μ-loop
+add-s c = search needs
+
+loop-less : tie.Need-loop-less Inv-loop μ-loop
+loop-less c = search needs
+
+loop-again : tie.Need-loop-again Inv-loop μ-loop
+loop-again c = search needs
+
+returns-2 : tie.Need-returns-2 Inv-loop μ-loop
+returns-2 c = search needs
+
+pub slot-of-spec : {M : Type 1} → statement M
+slot-of-spec =
+    tie.close
+    (tie.spec
+    Inv-loop
+    μ-loop
+    loop-holds
+    key-at-requires
+    returns
+    add-s
+    loop-less
+    loop-again
+    returns-2)

@@ -1,0 +1,126 @@
+// The history H and the dependence of occurrences (document 004, Definitions 8 to 10 and 12), in 1,536 words. An occurrence
+// has one of 256 slots: its key (0 where the slot is free), its transition, and four words with the slots that depend on it.
+ghost use Prim.Native.Nat.{_≤_, _<_};
+use oracle_net::reader::arc_bases;
+use oracle_net::sets::get;
+use oracle_net::sets::join;
+use oracle_net::sets::less;
+use oracle_net::sets::only;
+use oracle_net::sets::put;
+
+pub fn key_at(h: &[u64], slot: usize) -> u16 {
+    (get(h, slot % 256) % 65536) as u16
+}
+
+pub fn transition_at(h: &[u64], slot: usize) -> usize
+    ensures { λ r. ⌜ r < 64 ⌝ }
+{
+    (get(h, 256 + slot % 256) % 64) as usize
+}
+
+// Where it stands that a later slot depends on an earlier.
+fn pair(earlier: usize, later: usize) -> usize
+    ensures { λ r. ⌜ r < 1536 ⌝ }
+{
+    512 + 4 * (earlier % 256) + later / 64 % 4
+}
+
+fn larger(a: u16, b: u16) -> u16 {
+    if a < b { b } else { a }
+}
+
+// The highest key of all transitions; 0 where there is none.
+pub fn highest(h: &[u64]) -> u16 {
+    let mut best: u16 = 0;
+    let mut s: usize = 0;
+    while s < 256 {
+        best = larger(best, key_at(h, s));
+        s += 1;
+    }
+    best
+}
+
+fn key_of(h: &[u64], slot: usize, t: usize) -> u16 {
+    if transition_at(h, slot) == t {
+        key_at(h, slot)
+    } else {
+        0
+    }
+}
+
+// max(H(t)).
+pub fn latest(h: &[u64], t: usize) -> u16 {
+    let mut best: u16 = 0;
+    let mut s: usize = 0;
+    while s < 256 {
+        best = larger(best, key_of(h, s, t));
+        s += 1;
+    }
+    best
+}
+
+// The slot of a key, the first free one for 0; 256 where there is none.
+pub fn slot_of(h: &[u64], key: u16) -> usize
+    ensures { λ r. ⌜ r ≤ 256 ⌝ }
+{
+    let mut s: usize = 0;
+    while s < 256 {
+        if key_at(h, s) == key {
+            return s;
+        }
+        s += 1;
+    }
+    256
+}
+
+// Definition 9: an occurrence of lower key whose post(t) has a base that the new one uses.
+fn relate(h: &mut [u64], sheet: &[u8], earlier: usize, later: usize, bases: u64) {
+    let k = key_at(h, earlier);
+    let t = transition_at(h, earlier);
+    if k != 0 {
+        if k < key_at(h, later) {
+            if arc_bases(sheet, t) & bases != 0 {
+                join(h, pair(earlier, later), only(later));
+            }
+        }
+    }
+}
+
+fn relate_all(h: &mut [u64], sheet: &[u8], later: usize, bases: u64) {
+    let mut s: usize = 0;
+    while s < 256 {
+        relate(h, sheet, s, later, bases);
+        s += 1;
+    }
+}
+
+// Definition 10: a new occurrence, and what it depends on.
+pub fn record(h: &mut [u64], sheet: &[u8], slot: usize, t: usize, key: u16, bases: u64) {
+    put(h, slot % 256, key as u64);
+    put(h, 256 + slot % 256, t as u64);
+    relate_all(h, sheet, slot, bases);
+}
+
+// Definition 11(2): whether an occurrence depends on this one.
+pub fn has_dependents(h: &[u64], slot: usize) -> bool {
+    let a = get(h, pair(slot, 0)) | get(h, pair(slot, 64));
+    let b = get(h, pair(slot, 128)) | get(h, pair(slot, 192));
+    (a | b) != 0
+}
+
+fn part(h: &mut [u64], earlier: usize, later: usize) {
+    let at = pair(earlier, later);
+    let old = get(h, at);
+    put(h, at, less(old, only(later)));
+}
+
+// Definition 12: the occurrence goes, and the pairs in which it is the later.
+pub fn forget(h: &mut [u64], slot: usize) {
+    put(h, slot % 256, 0);
+    put(h, 256 + slot % 256, 0);
+    let mut s: usize = 0;
+    while s < 256 {
+        part(h, s, slot);
+        s += 1;
+    }
+}

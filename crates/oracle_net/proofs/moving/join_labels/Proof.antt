@@ -1,0 +1,53 @@
+-- `oracle_net::moving::join_labels` meets its contract. The counter stays within its bound, and lent slices keep their length.
+-- Assumes nothing.
+use borrow.Author.Needs.{needs}
+use mathlib.Core.Path.{_≡_}
+use Prim.Native.Nat.{_-_, _≤_}
+use lib.ListN.{length}
+use Rattle.oracle_net.proofs.moving.join_labels.Statement.{statement}
+use Rattle.oracle_net.proofs.moving.join_labels.Tie as tie
+
+abbrev Inv-loop : tie.InvT-loop
+Inv-loop new₀ labels i₀ new i = (i ≤ 4160) × (length new ≡ length new₀)
+
+abbrev μ-loop : tie.MeasureT-loop
+μ-loop new₀ labels i₀ new i = 4160 - i
+
+loop-holds : tie.Need-loop-holds Inv-loop μ-loop
+loop-holds c = search needs
+
+get-requires : tie.Need-get-requires Inv-loop μ-loop
+get-requires c κs = search needs
+
+join-requires : tie.Need-join-requires Inv-loop μ-loop
+join-requires c κs = search needs
+
+add-i : tie.Need-add-i Inv-loop μ-loop
+add-i c = search needs
+
+loop-less : tie.Need-loop-less Inv-loop μ-loop
+loop-less c = search needs
+
+loop-again : tie.Need-loop-again Inv-loop μ-loop
+loop-again c = search needs
+
+same-length : tie.Need-same-length Inv-loop μ-loop
+same-length c = search needs
+
+returns : tie.Need-returns Inv-loop μ-loop
+returns c = search needs
+
+pub join-labels-spec : {M : Type 1} → statement M
+join-labels-spec =
+    tie.close
+    (tie.spec
+    Inv-loop
+    μ-loop
+    loop-holds
+    get-requires
+    join-requires
+    add-i
+    loop-less
+    loop-again
+    same-length
+    returns)

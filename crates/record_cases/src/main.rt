@@ -1,0 +1,98 @@
+// Records handed in, altered, and tallies near their limit, by the customer's call with a lent tally. What each is to be
+// answered was worked out from document 01. Prints how many of a group were run, and how many differed.
+mod altered;
+mod edits;
+
+use altered::tried;
+use command_case::Case;
+use command_case::FIRED;
+use command_case::UNDONE;
+use command_case::begun;
+use command_case::command;
+use command_case::counted;
+use command_case::given;
+use command_case::on;
+use command_case::print;
+use edits::with_transition;
+use tally::Tally;
+
+// The record after M1, M2 and M4, with nothing counted.
+fn after_m4(b: &[u8]) -> Case {
+    let m1 = command(begun(b), b, 1, 0, FIRED, 1);
+    let m2 = command(m1, b, 1, 1, FIRED, 2);
+    let m4 = command(m2, b, 1, 2, FIRED, 3);
+    on(m4.session)
+}
+
+// Three counts at one number.
+fn tally_of(n: u16) -> Tally {
+    Tally {
+        fired: n,
+        undone: n,
+        refused: n,
+    }
+}
+
+fn with_tally(c: Case, t: Tally) -> Case {
+    let mut next = c;
+    next.tally = t;
+    next
+}
+
+fn is_tally(t: Tally, fired: u16, undone: u16, refused: u16) -> bool {
+    (t.fired == fired) & ((t.undone == undone) & (t.refused == refused))
+}
+
+// Counts at 65,534 go to 65,535, each by its own command, and stay there. Step 2 of sheet B always fires, and no firing
+// has serial 9.
+fn tallies(b: &[u8]) -> Case {
+    let mut c = with_tally(begun(b), tally_of(65534));
+    c = command(c, b, 1, 2, FIRED, 1);
+    c = counted(c, is_tally(c.tally, 65535, 65534, 65534));
+    c = command(c, b, 1, 2, FIRED, 2);
+    c = counted(c, is_tally(c.tally, 65535, 65534, 65534));
+    c = command(c, b, 3, 9, 19, 0);
+    c = counted(c, is_tally(c.tally, 65535, 65534, 65535));
+    c = command(c, b, 3, 9, 19, 0);
+    c = counted(c, is_tally(c.tally, 65535, 65534, 65535));
+    c = command(c, b, 2, 0, UNDONE, 2);
+    c = counted(c, is_tally(c.tally, 65535, 65535, 65535));
+    c = command(c, b, 2, 0, UNDONE, 1);
+    c = counted(c, is_tally(c.tally, 65535, 65535, 65535));
+    // what cannot be read and what is cut short add to refused alone
+    c = with_tally(c, tally_of(7));
+    c = command(c, b, 9, 0, 11, 0);
+    c = given(c, b, b"\x01", 21, 0);
+    counted(c, is_tally(c.tally, 7, 7, 9))
+}
+
+fn on_b(b: &[u8]) {
+    let c = after_m4(b);
+    print(b"places", altered::places(c, b), 0);
+    print(b"couplings", altered::bonds(c, b), 0);
+    print(b"live", altered::live(c, b), 0);
+    print(b"steps", altered::transitions(c, b), 0);
+    print(b"serials", altered::keys(c, b), 0);
+    print(b"moved parts and order", altered::moved(c, b), 0);
+    print(b"tallies", tallies(b), 0);
+}
+
+// Sheet D has two parts at 0, and steps 0 and 1 alike (part 0 from 0 to 1), so that one may stand for the other; step 2 is
+// part 1 from 0 to 0.
+fn on_d(d: &[u8]) {
+    let fired = command(begun(d), d, 1, 0, FIRED, 1);
+    let r = fired.session;
+    let mut c = on(r);
+    c = tried(c, d, with_transition(r, 0, 1), UNDONE, 1);
+    c = tried(c, d, with_transition(r, 0, 2), 10, 0);
+    print(b"a step for its like", c, 0);
+}
+
+fn main() {
+    on_b(
+        b"\x01\x03\x04\x06\x24\x00\x04\x00\x28\x00\x02\x00\x2a\x00\x0b\x00\x35\x00\x06\x00\x3b\x00\x06\x00\x41\x00\x09\x00\x4a\x00\x0b\x00\x55\x00\x0d\x00\x00\x00\x00\x00\x02\x03\x02\x00\x00\x01\x02\x00\x01\x00\x01\x00\x02\x01\x03\x01\x02\x00\x00\x01\x01\x00\x00\x00\x00\x02\x02\x00\x01\x03\x00\x02\x00\x00\x02\x02\x00\x00\x03\x00\x00\x00\x01\x02\x03\x02\x00\x00\x00\x01\x00\x00\x01\x00\x01\x01\x00\x01",
+    );
+    on_d(
+        b"\x01\x02\x02\x03\x18\x00\x02\x00\x1a\x00\x00\x00\x1a\x00\x06\x00\x20\x00\x06\x00\x26\x00\x06\x00\x00\x00\x01\x00\x00\x01\x00\x00\x01\x00\x00\x01\x00\x00\x01\x01\x00\x00\x00\x00",
+    );
+}
