@@ -14,8 +14,12 @@ use Rattle.net.specs.Connection.{joined, labelling, label}
 use Rattle.net.specs.declared.Bond.{Bond}
 use Rattle.net.proofs.Tests.{pick-case}
 use Rattle.net.proofs.Tables.{table-more, getD-table}
-use Rattle.bonds.specs.Ends.{ends, bondsIn, renamed, joinedLabels}
+use Rattle.bonds.specs.Ends.{ends, bondsIn, renamed}
 use Rattle.bonds.proofs.Fill.{map-table}
+
+-- labels after one more bond: the label of its second end gives way to that of its first
+abbrev joinedLabels : List ℕ → ℕ → ℕ → List ℕ
+joinedLabels l p q = map (renamed (getD l q 0) (getD l p 0)) l
 
 labelling-append : (f : ℕ → ℕ) (bs cs : List Bond) → labelling f (bs ++ cs) ≡ labelling (labelling f bs) cs
 labelling-append f [] cs = refl

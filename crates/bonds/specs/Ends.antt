@@ -1,6 +1,6 @@
 -- Bonds that lie in two lists of ends, lo and hi: the bond at i has the ends lo i and hi i.
 -- Definitions only.
-use mathlib.Core.List.{List, map}
+use mathlib.Core.List.{List}
 use Prim.Native.Nat.{ℕ}
 use lib.Dec.{eqb}
 use lib.ListN.{getD}
@@ -23,7 +23,3 @@ rankIn lo hi n b = count (λ (c : Bond). lessBond c b) (bondsIn lo hi n)
 -- a label after one label gave way to another
 abbrev pub renamed : ℕ → ℕ → ℕ → ℕ
 renamed from to x = pick (eqb x from) to x
-
--- labels after one more bond: the label of its second end gives way to that of its first
-abbrev pub joinedLabels : List ℕ → ℕ → ℕ → List ℕ
-joinedLabels l p q = map (renamed (getD l q 0) (getD l p 0)) l

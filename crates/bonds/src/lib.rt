@@ -8,7 +8,7 @@ ghost use Rattle.net.specs.Limits.{maxBases};
 ghost use Rattle.net.specs.Tests.{pick, table};
 ghost use Rattle.net.specs.Net.{bond, sameBond, lessBond, hasBond};
 ghost use Rattle.net.specs.Connection.{label};
-ghost use Rattle.bonds.specs.Ends.{bondsIn, rankIn, renamed, joinedLabels};
+ghost use Rattle.bonds.specs.Ends.{bondsIn, rankIn, renamed};
 use net::Base;
 use net::Bond;
 use net::MAX_BASES;

@@ -1,9 +1,9 @@
 -- Laws of the closing lines: how long they are, and that their pieces make them.
 -- Assumes nothing.
-use mathlib.Core.Path.{_≡_, refl, sym, ap, _∙_}
+use mathlib.Core.Path.{_≡_, sym, ap}
 use Prim.Native.Nat.{ℕ, _+_, _*_, _≤_}
 use native.Mathlib.Omega.{arith}
-use mathlib.Core.List.{List, [], _∷_, _++_, map}
+use mathlib.Core.List.{List, [], _∷_, _++_}
 use lib.ListN.{length, getD, length-append}
 use lib.Seq.{sets}
 use Rattle.net.specs.Tests.{table}
@@ -13,7 +13,7 @@ use Rattle.bonds.proofs.Fill.{map-table, table-map}
 use Rattle.text.specs.Decimal.{digits, decimal}
 use Rattle.text.specs.Joined.{joined}
 use Rattle.text.proofs.Digits.{digits-length}
-use Rattle.text.proofs.Writes.{Written, written-none, written-more, written-pair}
+use Rattle.text.proofs.Writes.{written-none, written-more, written-pair}
 use Rattle.text.proofs.Joined.{joined-length}
 use Rattle.closing.specs.Closing.{item, items, row, bondLine, bondLines, itemRoom, bondRoom}
 

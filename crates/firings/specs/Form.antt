@@ -1,6 +1,6 @@
 -- The form of live firings in an array (01, commands, record, tally): unused entries hold 0, keys strictly ascend.
 -- Definitions only. n is the number of bases; the first k entries are live.
-use mathlib.Core.Bool.{Bool, true, not, _&&_}
+use mathlib.Core.Bool.{Bool, true, _&&_}
 use mathlib.Core.List.{List, [], _∷_}
 use mathlib.Core.Path.{_≡_}
 use Prim.Native.Nat.{ℕ, _<_, _≤_}

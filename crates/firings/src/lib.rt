@@ -1,7 +1,7 @@
 // The live firings of a session record, in an array by value: one taken out, their form, their keys.
 // Entries after the live ones hold 0.
 ghost use mathlib.Core.Path.{_≡_};
-ghost use mathlib.Core.Bool.{Bool, true, Bool·beq};
+ghost use mathlib.Core.Bool.{true, Bool·beq};
 ghost use mathlib.Core.List.{[], _∷_};
 ghost use Prim.Native.Nat.{_+_, _<_, _≤_};
 ghost use lib.Dec.{ltb};

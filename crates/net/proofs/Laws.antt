@@ -10,7 +10,7 @@ use Rattle.causal.specs.Runs.{Laws}
 use Rattle.causal.proofs.Tests.{both}
 use Rattle.net.specs.Net.{Arcs, Marking, Net, bond, sameBond, lessBond, hasBond, place, arcsOf}
 use Rattle.net.specs.Marking.{Good}
-use Rattle.net.specs.Firing.{inSet, moves, fire, undo, sent, Fires}
+use Rattle.net.specs.Firing.{inSet, moves, fire, undo, Fires}
 use Rattle.net.specs.declared.Entry.{Entry}
 use Rattle.net.specs.declared.Transition.{Transition}
 use Rattle.net.proofs.Tests.{fails}

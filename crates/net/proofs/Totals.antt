@@ -17,7 +17,7 @@ use Rattle.net.specs.Sorted.{put, puts, Ascending}
 use Rattle.net.specs.Net.{Arcs, Marking, Net, sameBond, lessBond, hasBond, arcsOf}
 use Rattle.net.specs.Rules.{netRule}
 use Rattle.net.specs.Marking.{Good}
-use Rattle.net.specs.Firing.{inSet, bondAbsent, bondPresent, fire, undo, Fires}
+use Rattle.net.specs.Firing.{inSet, bondAbsent, bondPresent, undo, Fires}
 use Rattle.net.specs.Journal.{LiveLine, Journal, play, begin}
 use Rattle.net.specs.Claims.{newBonds, allNewBonds, Totals}
 use Rattle.net.specs.declared.Bond.{Bond}

@@ -10,7 +10,7 @@ use lib.ListN.{length, getD, drop, List·getD-append}
 use lib.Seq.{sets}
 use borrow.Author.Tests.{leb-true}
 use Rattle.net.specs.Limits.{maxBonds, maxLive}
-use Rattle.net.specs.Tests.{all, table}
+use Rattle.net.specs.Tests.{all}
 use Rattle.net.specs.Checks.{clear}
 use Rattle.net.specs.Journal as J
 use Rattle.net.specs.Journal.{Journal, begin, play, answers}
@@ -38,7 +38,7 @@ use Rattle.runs.proofs.Turns.{length-map, run-length, ran-sound}
 use Rattle.runs.proofs.Codes.{all-told}
 use Rattle.report.specs.Lines.{lineOf}
 use Rattle.output.specs.Output.{answerLines, tallied, closingOf, sessionText}
-use Rattle.output.specs.Coded.{codedLine, codedAt, codedLines, LowCodes}
+use Rattle.output.specs.Coded.{codedAt, codedLines, LowCodes}
 use Rattle.output.proofs.Codes.{answeredLines, codes, keys, told-lines, low-codes}
 
 -- ---- Lists that were stored from the front of a longer one

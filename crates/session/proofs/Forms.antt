@@ -4,12 +4,11 @@ use mathlib.Core.Path.{_≡_, refl}
 use mathlib.Core.Bool.{true, false, not}
 use mathlib.Core.List.{map}
 use Prim.Native.Nat.{ℕ, _≤_, _-_}
-use lib.ListN.{length, take, drop, replicate, length-map}
+use lib.ListN.{length, replicate, length-map}
 use lib.Seq.{take-at, drop-at}
 use borrow.Author.Tests.{le-leb}
 use Rattle.causal.specs.Lists.{Mem}
 use Rattle.net.specs.Limits.{maxBases, maxBonds, maxLive}
-use Rattle.net.specs.Tests.{all, table}
 use Rattle.net.specs.Journal.{LiveLine, Journal}
 use Rattle.marking.proofs.Forms.{marking-laid, laid-in-form}
 use Rattle.firings.specs.Lines.{past, lineOf, noFiring, firingOf}

@@ -2,7 +2,6 @@
 // each time. Reads what the exam program reads, up to 65,536 bytes, and prints the sum of the keys and the tally.
 // It is measured by bench/run; what stdout has was printed by the plain Rust program there.
 ghost use Prim.Native.Nat.{_≤_};
-ghost use lib.ListN.{length};
 use format::word_at;
 use opening::start;
 use runs::command_at;

@@ -5,7 +5,7 @@ use native.Mathlib.Omega.{arith}
 use mathlib.Core.Path.{_≡_, refl, ap, _∙_}
 use Prim.Native.Nat.{ℕ, _-_, _≤_}
 use lib.ListN.{length, take}
-use mathlib.Core.Bool.{Bool, false, Bool·beq}
+use mathlib.Core.Bool.{false, Bool·beq}
 use Rattle.net.specs.Limits.{maxBases}
 use Rattle.net.specs.Tests.{sameList}
 use Rattle.firings.proofs.Same.{same-taken}

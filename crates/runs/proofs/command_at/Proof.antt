@@ -1,9 +1,7 @@
 -- `runs::command_at` meets its contract.
 -- Assumes nothing but the laws of proofs/.
 use Rattle.runs.proofs.Turns.{cut-part, whole-part}
-use mathlib.Core.Path.{_≡_}
 use Prim.Native.Nat.{_-_}
-use lib.ListN.{take}
 use borrow.Author.Needs.{needs}
 use Rattle.runs.proofs.command_at.Statement.{statement}
 use Rattle.runs.proofs.command_at.Tie as tie

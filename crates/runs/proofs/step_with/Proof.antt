@@ -1,7 +1,6 @@
 -- `runs::step_with` meets its contract.
 -- Assumes nothing but the laws of proofs/.
 use Rattle.runs.proofs.Stays.{stepped}
-use mathlib.Core.Path.{_≡_}
 use Prim.Native.Nat.{_-_}
 use borrow.Author.Needs.{needs}
 use Rattle.runs.proofs.step_with.Statement.{statement}

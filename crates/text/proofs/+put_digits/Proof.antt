@@ -4,7 +4,7 @@ use mathlib.Core.List.{[], _∷_, _++_}
 use Rattle.text.specs.Decimal.{digits}
 use mathlib.Core.Path.{_≡_, refl}
 use native.Mathlib.Omega.{arith}
-use lib.ListN.{length, length-append}
+use lib.ListN.{length-append}
 use Rattle.text.proofs.Digits.{digits-one, digits-more, digits-length}
 use Rattle.text.proofs.Writes.{sets-snoc}
 use borrow.Author.Needs.{needs}
