@@ -1,4 +1,5 @@
 // The commands of a generated session: firings and takings back by lot, among them commands that are refused as such.
+// Each is worked out from the seed, its number and what is live.
 ghost use Prim.Native.Nat.{_≤_};
 use generated::random::below;
 use generated::random::mixed;

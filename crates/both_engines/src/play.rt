@@ -1,4 +1,5 @@
 // A session on both engines: the sheet of a plan and a seed, then commands by lot, each compared.
+// What is compared and counted is in compare.rt.
 ghost use Prim.Native.Nat.{_≤_};
 use crate::commands::Given;
 use crate::commands::command_of;

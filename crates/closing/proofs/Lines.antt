@@ -5,7 +5,6 @@ use Prim.Native.Nat.{ℕ, _+_, _*_, _≤_}
 use native.Mathlib.Omega.{arith}
 use mathlib.Core.List.{List, [], _∷_, _++_}
 use lib.ListN.{length, getD, length-append}
-use lib.Seq.{sets}
 use Rattle.net.specs.Tests.{table}
 use Rattle.net.specs.declared.Bond.{Bond}
 use Rattle.bonds.specs.Ends.{ends, bondsIn}
@@ -13,13 +12,9 @@ use Rattle.bonds.proofs.Fill.{map-table, table-map}
 use Rattle.text.specs.Decimal.{digits, decimal}
 use Rattle.text.specs.Joined.{joined}
 use Rattle.text.proofs.Digits.{digits-length}
-use Rattle.text.proofs.Writes.{written-none, written-more, written-pair}
+use Rattle.text.proofs.Writes.{Wrote, written-none, written-more, written-pair}
 use Rattle.text.proofs.Joined.{joined-length}
 use Rattle.closing.specs.Closing.{item, items, row, bondLine, bondLines, itemRoom, bondRoom}
-
--- a writer of the bytes ws was called on the buffer b at k, answered k′ and left b′
-abbrev pub Wrote : List ℕ → ℕ → List ℕ → ℕ → List ℕ → Type 0
-Wrote ws k b k′ b′ = (k′ ≡ k + length ws) × (b′ ≡ sets b k ws)
 
 -- ---- One number
 

@@ -1,4 +1,5 @@
 // Whether two session records are the same in every entry, used or not.
+// A refused command has to hand back the very record.
 use firings::Firing;
 use marking::Marking;
 use net::MAX_BASES;

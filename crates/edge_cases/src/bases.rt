@@ -1,4 +1,5 @@
 // 64 parts are accepted, 65 refused by 3: a sheet of one place, so many parts at 0, and a step that moves part 0 from 0 to 0.
+// One of the edges that document 01 names.
 use command_case::Case;
 use command_case::FIRED;
 use command_case::UNDONE;

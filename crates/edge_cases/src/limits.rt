@@ -1,4 +1,5 @@
 // 256 live firings and serial 65,535, on sheet P (pairs.rt says what its transitions are).
+// Document 01's edges for 17 and 18, the latter from a record that is handed in.
 use crate::pairs::blocked;
 use command_case::Case;
 use command_case::FIRED;

@@ -1,4 +1,5 @@
 // The answer line into lent buffers (document 01, the turned-away list, 22; the exam program).
+// A buffer of 23 bytes is refused, one of 24 is written to.
 use command_case::Case;
 use command_case::answered;
 use net::Key;

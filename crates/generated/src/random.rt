@@ -1,4 +1,5 @@
 // Numbers that look drawn by lot and are the same on every run: each is worked out from a seed and where it is used.
+// No state is kept between them.
 fn stirred(x: u64) -> u64 {
     let y = (x % 2147483648) * 1103515245 + 12345;
     y ^ (y >> 15)

@@ -1,4 +1,5 @@
 // Backtracking and causal-order reversal (document 004, Definitions 6, 7 and 11).
+// Whether a firing may be reversed by 11(2) is the history's part.
 use oracle_net::labels::lay_rest;
 use oracle_net::moving::copy;
 use oracle_net::moving::put_in;

@@ -1,4 +1,5 @@
 // Forward execution (document 004, Definitions 4 and 5), with document 01's numbers 13 to 16 in checking order.
+// Markings and labels are lent slices of 4,160 words (oracle_net, sets).
 ghost use Prim.Native.Nat.{_≤_};
 use oracle_net::con::cons;
 use oracle_net::moving::copy;

@@ -1,4 +1,5 @@
 // con(a, C) of document 004, chapter 3: the bases that bonds of C lead to from a. Here C is a marking's M(x).
+// Nothing outside the place is looked at.
 use crate::sets::bases_at;
 use crate::sets::bonds_at;
 use crate::sets::has;

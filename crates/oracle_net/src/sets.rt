@@ -1,4 +1,5 @@
 // Sets of at most 64 things as words, and words in lent slices: past the end a read gives 0 and a store does nothing.
+// So no call has to be asked for an index within the slice.
 ghost use Prim.Native.Nat.{_<_};
 
 // The set of one thing.

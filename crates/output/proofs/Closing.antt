@@ -6,7 +6,6 @@ use Prim.Native.Nat.{ℕ, zero, suc, _+_, _*_, _≤_}
 use native.Mathlib.Omega.{arith}
 use native.Mathlib.Nat.{le-of-suc-le-suc}
 use lib.ListN.{length, getD, take}
-use lib.Seq.{sets}
 use Rattle.net.specs.Limits.{maxBases, maxLive}
 use Rattle.net.specs.Tests.{table}
 use Rattle.net.specs.Journal.{LiveLine}
@@ -17,7 +16,7 @@ use Rattle.firings.specs.Lines.{past, lineOf, linesIn}
 use Rattle.firings.specs.declared.Firing.{Firing}
 use Rattle.sound.specs.Soundness.{journalIn}
 use Rattle.tally.specs.declared.Tally.{Tally}
-use Rattle.text.proofs.Writes.{written-none, written-more, written-pair}
+use Rattle.text.proofs.Writes.{Wrote, written-none, written-more, written-pair}
 use Rattle.closing.specs.Closing.{itemRoom, bondRoom, placesLine, bondLines, liveLine, tallyLine}
 use Rattle.closing.proofs.Lines.{row-length, bonds-table, bonds-upto}
 use Rattle.output.specs.Output.{keysLive, closingOf}
@@ -54,10 +53,6 @@ keys-of-lines : (b k : ℕ) (fs : List Firing) → keysIn fs k ≡ keysLive (lin
 keys-of-lines b k fs = sym (map-table (λ (l : LiveLine). l .key .0) k (λ i. lineOf b (getD fs i past)))
 
 -- ---- The whole
-
--- a writer of the bytes ws was called on the buffer b at k, answered k′ and left b′
-abbrev Wrote : List ℕ → ℕ → List ℕ → ℕ → List ℕ → Type 0
-Wrote ws k b k′ b′ = (k′ ≡ k + length ws) × (b′ ≡ sets b k ws)
 
 -- the four writers, one after the other, leave the closing lines
 pub closing-pieces : (b : List ℕ) {b₁ b₂ b₃ b₄ : List ℕ} (at : ℕ) {k₁ k₂ k₃ k₄ : ℕ} (n : ℕ) (m : Marking) (k : ℕ) (fs : List Firing) (t : Tally)

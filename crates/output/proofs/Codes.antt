@@ -16,7 +16,7 @@ use Rattle.net.proofs.Tests.{and-l, and-r}
 use Rattle.net.proofs.Tables.{table-cong}
 use Rattle.text.specs.Decimal.{digits, decimal}
 use Rattle.text.specs.Joined.{joined}
-use Rattle.text.proofs.Writes.{written-none, written-more}
+use Rattle.text.proofs.Writes.{Wrote, written-none, written-more}
 use Rattle.session.specs.Runs.{Answered}
 use Rattle.session.specs.declared.Answer.{Answer}
 use Rattle.session.specs.declared.Answer.the-variants.{Fired, Undone, Refused}
@@ -111,10 +111,6 @@ low-codes (a ∷ rest) h zero e = low-code (a .answer) (and-l (told a) (all told
 low-codes (a ∷ rest) h (suc i) e = low-codes rest (and-r (told a) (all told rest) h) i (le-of-suc-le-suc e)
 
 -- ---- A refused sheet
-
--- a writer of the bytes ws was called on the buffer b at k, answered k′ and left b′
-abbrev Wrote : List ℕ → ℕ → List ℕ → ℕ → List ℕ → Type 0
-Wrote ws k b k′ b′ = (k′ ≡ k + length ws) × (b′ ≡ sets b k ws)
 
 -- the three writers, one after the other, leave the line
 pub refused-pieces : (b : List ℕ) {b₁ b₂ b₃ : List ℕ} {k₁ k₂ k₃ : ℕ} (n : ℕ) → Wrote sheetRefused 0 b k₁ b₁ → Wrote (digits 10 n) k₁ b₁ k₂ b₂ → Wrote (10 ∷ []) k₂ b₂ k₃ b₃ → (k₃ ≡ length (refusedSheet n)) × (b₃ ≡ sets b 0 (refusedSheet n))

@@ -1,4 +1,5 @@
 // A record with one thing changed; nothing where the entry is not there.
+// The cases alter each field of a sound record in turn.
 use firings::Firing;
 use net::Key;
 use session::Record;

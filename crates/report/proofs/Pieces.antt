@@ -12,7 +12,7 @@ use lib.Seq.{sets}
 use borrow.Author.Tests.{lt-ltb, le-ltb, eq-eqb, ne-eqb, eqb-true, eqb-false}
 use Rattle.net.specs.declared.Key.{Key}
 use Rattle.text.specs.Decimal.{digits, decimal}
-use Rattle.text.proofs.Writes.{written-none, written-more, written-pair}
+use Rattle.text.proofs.Writes.{Wrote, written-none, written-more, written-pair}
 use Rattle.session.specs.declared.Answer.{Answer}
 use Rattle.report.specs.Lines.{fired, undone, refused, wordOf, answerLine, lineOf, valueLimit}
 use Rattle.report.proofs.Places.{digits-few, decimal-five}
@@ -68,10 +68,6 @@ module _ (w v : ℕ) (h : v < valueLimit w) where
   room = room-by (eqb w 0) (eqb w 1) refl refl
 
 -- ---- The whole
-
--- a writer of the bytes ws was called on the buffer b at k, answered k′ and left b′
-abbrev Wrote : List ℕ → ℕ → List ℕ → ℕ → List ℕ → Type 0
-Wrote ws k b k′ b′ = (k′ ≡ k + length ws) × (b′ ≡ sets b k ws)
 
 -- the four writers, one after the other, leave the line
 pub pieces : (b : List ℕ) {b₁ b₂ b₃ b₄ : List ℕ} (at : ℕ) {k₁ k₂ k₃ k₄ : ℕ} (n w v : ℕ) → v < 100000 → Wrote (digits 10 n) at b k₁ b₁ → Wrote (wordOf w) k₁ b₁ k₂ b₂ → Wrote (digits 5 v) k₂ b₂ k₃ b₃ → Wrote (10 ∷ []) k₃ b₃ k₄ b₄ → Wrote (answerLine n w v) at b k₄ b₄

@@ -5,11 +5,10 @@ use Prim.Native.Nat.{ℕ, zero, suc, _+_, _*_, _≤_}
 use native.Mathlib.Omega.{arith}
 use mathlib.Core.List.{List, [], _∷_, _++_, append-assoc, append-nil}
 use lib.ListN.{length, length-append}
-use lib.Seq.{sets}
 use Rattle.net.specs.Tests.{table}
 use Rattle.net.proofs.Tables.{table-more}
 use Rattle.text.specs.Joined.{joined}
-use Rattle.text.proofs.Writes.{Written, written-more}
+use Rattle.text.proofs.Writes.{Wrote, Written, written-more}
 
 pub joined-snoc : (ts : List (List ℕ)) (t : List ℕ) → joined (ts ++ (t ∷ [])) ≡ joined ts ++ t
 joined-snoc [] t = append-nil t
@@ -20,7 +19,7 @@ pub joined-more : (n : ℕ) (f : ℕ → List ℕ) → joined (table (n + 1) f) 
 joined-more n f = ap joined (table-more n f) ∙ joined-snoc (table n f) (f n)
 
 -- a loop that writes the texts of a table, one turn more
-pub table-written : {l now : List ℕ} {at k : ℕ} (f : ℕ → List ℕ) (n : ℕ) {k′ : ℕ} {now′ : List ℕ} → Written l at (joined (table n f)) k now → (k′ ≡ k + length (f n)) × (now′ ≡ sets now k (f n)) → Written l at (joined (table (n + 1) f)) k′ now′
+pub table-written : {l now : List ℕ} {at k : ℕ} (f : ℕ → List ℕ) (n : ℕ) {k′ : ℕ} {now′ : List ℕ} → Written l at (joined (table n f)) k now → Wrote (f n) k now k′ now′ → Written l at (joined (table (n + 1) f)) k′ now′
 table-written f n w e = rw (joined-more n f) (written-more (f n) w e)
 
 -- texts that are short come to a short text

@@ -35,6 +35,10 @@ copied-more b₀ word at i h =
     let q : at + length (take i word) ≡ at + i = ap (λ (k : ℕ). at + k) e in
     ap (λ (k : ℕ). set (sets b₀ at (take i word)) k (getD word i 0)) (sym q) ∙ s ∙ sym (rw (add-one i, take-suc word i 0))
 
+-- a writer of the bytes ws was called on the buffer b at k, answered k′ and left b′
+abbrev pub Wrote : List ℕ → ℕ → List ℕ → ℕ → List ℕ → Type 0
+Wrote ws k b k′ b′ = (k′ ≡ k + length ws) × (b′ ≡ sets b k ws)
+
 -- a buffer l in which the text vs now stands from at on, up to k
 pub record Written (l : List ℕ) (at : ℕ) (vs : List ℕ) (k : ℕ) (now : List ℕ) : Type 0 where
   pub count : k ≡ at + length vs
@@ -44,12 +48,12 @@ pub written-none : (l : List ℕ) (at : ℕ) → Written l at [] at l
 written-none l at = record { count = sym (add-zero at); list = refl }
 
 -- one writer more
-pub written-more : {l vs now : List ℕ} {at k : ℕ} (ws : List ℕ) {k′ : ℕ} {now′ : List ℕ} → Written l at vs k now → (k′ ≡ k + length ws) × (now′ ≡ sets now k ws) → Written l at (vs ++ ws) k′ now′
+pub written-more : {l vs now : List ℕ} {at k : ℕ} (ws : List ℕ) {k′ : ℕ} {now′ : List ℕ} → Written l at vs k now → Wrote ws k now k′ now′ → Written l at (vs ++ ws) k′ now′
 written-more {l} {vs} {now} {at} {k} ws {k′} w e = record { count = counts; list = e .1 ∙ rw (w .list, w .count) (sets-sets vs ws l at) }
   where
     counts : k′ ≡ at + length (vs ++ ws)
     counts = let a = length-append vs ws in let b = w .count in let d = e .0 in omega arith
 
--- the contract of a writer
-pub written-pair : {l vs now : List ℕ} {at k : ℕ} → Written l at vs k now → (k ≡ at + length vs) × (now ≡ sets l at vs)
+-- all of it as what one writer wrote
+pub written-pair : {l vs now : List ℕ} {at k : ℕ} → Written l at vs k now → Wrote vs at l k now
 written-pair w = (w .count, w .list)
