@@ -10,7 +10,7 @@ use borrow.Author.Tests.{eqb-true}
 use Rattle.causal.specs.Lists.{Mem}
 use Rattle.net.specs.Tests.{table}
 use Rattle.net.specs.Net.{bond}
-use Rattle.net.specs.Connection.{joined, labelling, label}
+use Rattle.net.specs.Connection.{relabelled, labelling, label}
 use Rattle.net.specs.declared.Bond.{Bond}
 use Rattle.net.proofs.Tests.{pick-case}
 use Rattle.net.proofs.Tables.{table-more, getD-table}
@@ -23,12 +23,12 @@ joinedLabels l p q = map (renamed (getD l q 0) (getD l p 0)) l
 
 labelling-append : (f : ℕ → ℕ) (bs cs : List Bond) → labelling f (bs ++ cs) ≡ labelling (labelling f bs) cs
 labelling-append f [] cs = refl
-labelling-append f (b ∷ bs) cs = labelling-append (joined f b) bs cs
+labelling-append f (b ∷ bs) cs = labelling-append (relabelled f b) bs cs
 
-labelling-more : (f : ℕ → ℕ) (i : ℕ) (g : ℕ → Bond) → labelling f (table (i + 1) g) ≡ joined (labelling f (table i g)) (g i)
+labelling-more : (f : ℕ → ℕ) (i : ℕ) (g : ℕ → Bond) → labelling f (table (i + 1) g) ≡ relabelled (labelling f (table i g)) (g i)
 labelling-more f i g = ap (labelling f) (table-more i g) ∙ labelling-append f (table i g) (g i ∷ [])
 
-joined-table : (n : ℕ) (f : ℕ → ℕ) (p q : ℕ) → p < n → q < n → joinedLabels (table n f) p q ≡ table n (joined f (bond p q))
+joined-table : (n : ℕ) (f : ℕ → ℕ) (p q : ℕ) → p < n → q < n → joinedLabels (table n f) p q ≡ table n (relabelled f (bond p q))
 joined-table n f p q h k = rw (getD-table n f p 0 h, getD-table n f q 0 k) (map-table (renamed (f q) (f p)) n f)
 
 -- one turn of the loop over the bonds
@@ -53,7 +53,7 @@ same-join l p q e = rename-same (getD l q 0) l ∙ ap (λ (x : ℕ). map (rename
 -- the bases below n keep labels below n, where the bonds are of bases below n
 labelling-below : (n : ℕ) (bs : List Bond) (f : ℕ → ℕ) → ((b : Bond) → Mem b bs → b .lo < n) → ((p : ℕ) → p < n → f p < n) → (p : ℕ) → p < n → labelling f bs p < n
 labelling-below n [] f h k p l = k p l
-labelling-below n (b ∷ bs) f h k p l = labelling-below n bs (joined f b) (λ c m. h c (inr m))
+labelling-below n (b ∷ bs) f h k p l = labelling-below n bs (relabelled f b) (λ c m. h c (inr m))
     (λ q m. pick-case (λ (x : ℕ). x < n) (eqb (f q) (f (b .hi))) (f (b .lo)) (f q) (λ e. k (b .lo) (h b (inl refl))) (λ e. k q m)) p l
 
 pub label-below : (n : ℕ) (bs : List Bond) → ((b : Bond) → Mem b bs → b .lo < n) → (p : ℕ) → p < n → label bs p < n

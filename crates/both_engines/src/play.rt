@@ -9,13 +9,13 @@ use crate::compare::sheet_refused;
 use generated::plan::Plan;
 use generated::sheets::write_sheet;
 use net::Key;
-use opening::start;
 use session::Answer;
 use session::Counted;
 use session::Outcome;
 use session::Record;
 use session::StartAnswer;
 use session::command_with;
+use session_start::start;
 use tally::Tally;
 
 fn byte(sheet: &[u8], at: usize) -> u8 {

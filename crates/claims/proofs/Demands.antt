@@ -7,7 +7,7 @@ use Prim.Native.Nat.{ℕ}
 use Rattle.net.specs.Checks.{clear}
 use Rattle.sheet.specs.Checks.{sheetChecks}
 use Rattle.format.specs.Parts.{partOf, transitionBytes}
-use Rattle.sheet_start.specs.Conditions.{wrongSize, wrongVersion, wrongCounts, wrongPairs, wrongStartPlaces, wrongStartBonds}
+use Rattle.sheet_head.specs.Conditions.{wrongSize, wrongVersion, wrongCounts, wrongPairs, wrongStartPlaces, wrongStartBonds}
 use Rattle.sheet_arcs.specs.Conditions.{wrongWidth, wrongEntries}
 use Rattle.sheet_bonds.specs.Conditions.{wrongBonds}
 use Rattle.sheet.specs.Samples.{sheetA, sheetB}

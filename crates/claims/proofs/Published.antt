@@ -22,7 +22,7 @@ use Rattle.published.specs.States.{noKeys}
 use Rattle.published.specs.Forward.{firedMarks, firedKeys}
 use Rattle.published.specs.Backtracking.{reversedMarks, reversedKeys}
 use Rattle.published.specs.Causal.{Order}
-use Rattle.published.specs.Sheets.{petriNet, marksOf, keysOf, laterWithCommon}
+use Rattle.published.specs.Sheets.{petriNet, marksOf, historyOf, laterWithCommon}
 use Rattle.published.specs.Claims as P
 use Rattle.published.proofs.Nets.{definition2, well-formed}
 use Rattle.published.proofs.FiredKeys.{fired-keys}
@@ -42,7 +42,7 @@ use Rattle.session.specs.declared.Outcome.{Outcome}
 use Rattle.session.proofs.Sounds.{held}
 use Rattle.session.proofs.Steps.{outcome-is, held-back, step, follows-fresh}
 use Rattle.claims.specs.Demands.{sessionAfter}
-use Rattle.claims.specs.Published.{marksIn, keysIn, orderIn, Fires, TakesBack, AsPublished, KeysAsPublished, FollowsPublished, Demand2Published}
+use Rattle.claims.specs.Published.{marksIn, historyIn, orderIn, CommandFires, CommandTakesBack, AsPublished, KeysAsPublished, FollowsPublished, Demand2Published}
 
 -- ---- answers
 
@@ -122,7 +122,7 @@ module _ (s : List ℕ) (accepted : clear (sheetChecks s) ≡ true) (ok : netRul
   keys-held t c e u k =
       let (p, q) = fired-clear s j c (sym (answer-is t c) ∙ e) in
       let after : heldIn s (commandOf s r t c .outcome .session) ≡ fireReply (netOf s) j (transitionNamed c) .journal = journal-is t c ∙ ap (λ (y : Reply). y .journal) (reply-is s j c true true p q) in
-      subst⁻¹ (λ (x : Journal). Iff (keysOf x u k) (firedKeys (petriNet (netOf s)) (keysIn s r) (transitionNamed c) u k)) after (fired-keys (netOf s) ok j H (transitionNamed c) u k)
+      subst⁻¹ (λ (x : Journal). Iff (historyOf x u k) (firedKeys (petriNet (netOf s)) (historyIn s r) (transitionNamed c) u k)) after (fired-keys (netOf s) ok j H (transitionNamed c) u k)
 
   module _ (R : Order) (A : Agrees (heldIn s r) R) where
     shown : P.AsPublished (netOf s) (heldIn s r) R
@@ -131,7 +131,7 @@ module _ (s : List ℕ) (accepted : clear (sheetChecks s) ≡ true) (ok : netRul
     enabled-now : (c : List ℕ) → clear (checks (netOf s) j c) ≡ true → eqb (kindOf c) 1 ≡ true → clear (enableChecks (netOf s) (j .marking) (transitionNamed c)) ≡ true
     enabled-now c p q = and-l _ (clear (spaceChecks j)) (sym (clear-fire s j c q) ∙ checks-kind (netOf s) j c p)
 
-    fires-to : (t : Tally) (c : List ℕ) → clear (checks (netOf s) j c) ≡ true → eqb (kindOf c) 1 ≡ true → Fires s r t c (transitionNamed c)
+    fires-to : (t : Tally) (c : List ℕ) → clear (checks (netOf s) j c) ≡ true → eqb (kindOf c) 1 ≡ true → CommandFires s r t c (transitionNamed c)
     fires-to t c p q =
         let y : act (netOf s) j c ≡ fireReply (netOf s) j (transitionNamed c) = reply-is s j c true true p q in
         record {
@@ -143,7 +143,7 @@ module _ (s : List ℕ) (accepted : clear (sheetChecks s) ≡ true) (ok : netRul
     undoable : (c : List ℕ) → clear (checks (netOf s) j c) ≡ true → eqb (kindOf c) 1 ≡ false → clear (undoChecks j (keyNamed j c)) ≡ true
     undoable c p q = sym (clear-undo s j c q) ∙ checks-kind (netOf s) j c p
 
-    takes-back : (t : Tally) (c : List ℕ) → clear (checks (netOf s) j c) ≡ true → eqb (kindOf c) 1 ≡ false → TakesBack s r t c (lineOf (keyNamed j c) (j .lines) .transition)
+    takes-back : (t : Tally) (c : List ℕ) → clear (checks (netOf s) j c) ≡ true → eqb (kindOf c) 1 ≡ false → CommandTakesBack s r t c (lineOf (keyNamed j c) (j .lines) .transition)
     takes-back t c p q =
         let y : act (netOf s) j c ≡ undoReply (netOf s) j (keyNamed j c) = reply-is s j c true false p q in
         let after : heldIn s (commandOf s r t c .outcome .session) ≡ undoReply (netOf s) j (keyNamed j c) .journal = journal-is t c ∙ ap (λ (z : Reply). z .journal) y in
@@ -151,16 +151,16 @@ module _ (s : List ℕ) (accepted : clear (sheetChecks s) ≡ true) (ok : netRul
         record {
           answer = answer-is t c ∙ ap (λ (x : Reply). answerOf (x .answer)) y;
           marking = λ x i. subst⁻¹ (λ (h : Journal). Iff (marksOf (netOf s) (h .marking) x i) (reversedMarks (petriNet (netOf s)) (marksIn s r) v x i)) after (shown .undoes (keyNamed j c) (undoable c p q) x i);
-          keys = λ u k. subst⁻¹ (λ (h : Journal). Iff (keysOf h u k) (reversedKeys (keysIn s r) v u k)) after (shown .undoneKeys (keyNamed j c) (undoable c p q) u k);
+          keys = λ u k. subst⁻¹ (λ (h : Journal). Iff (historyOf h u k) (reversedKeys (historyIn s r) v u k)) after (shown .undoneKeys (keyNamed j c) (undoable c p q) u k);
         }
 
     -- the firing of a key that neither 19 nor 20 refuses
     by-key : (t : Tally) (c : List ℕ) (k : Key) (v : Transition) → clear (readChecks c) ≡ true → eqb (kindOf c) 1 ≡ false → keyNamed j c ≡ k
-        → (clear (undoChecks j k) ≡ true) × (lineOf k (j .lines) .transition ≡ v) → TakesBack s r t c v
+        → (clear (undoChecks j k) ≡ true) × (lineOf k (j .lines) .transition ≡ v) → CommandTakesBack s r t c v
     by-key t c k v read q same (e, w) =
         let e′ : clear (undoChecks j (keyNamed j c)) ≡ true = subst⁻¹ (λ (x : Key). clear (undoChecks j x) ≡ true) same e in
         let w′ : lineOf (keyNamed j c) (j .lines) .transition ≡ v = ap (λ (x : Key). lineOf x (j .lines) .transition) same ∙ w in
-        subst (TakesBack s r t c) w′ (takes-back t c (clear-own s j c read (clear-undo s j c q ∙ e′)) q)
+        subst (CommandTakesBack s r t c) w′ (takes-back t c (clear-own s j c read (clear-undo s j c q ∙ e′)) q)
 
     pub record-published : AsPublished s r R
     record-published = record {
@@ -202,7 +202,7 @@ module _ (s : List ℕ) (accepted : clear (sheetChecks s) ≡ true) (ok : netRul
   follows-published = record {
     definition2 = definition2 (netOf s) ok;
     wellFormed = well-formed (netOf s) ok;
-    initial = λ t u k. subst⁻¹ (λ (x : Journal). Iff (keysOf x u k) (noKeys u k)) (holds [] t) ((λ (l, m, _, _). m), λ x. absurd x);
+    initial = λ t u k. subst⁻¹ (λ (x : Journal). Iff (historyOf x u k) (noKeys u k)) (holds [] t) ((λ (l, m, _, _). m), λ x. absurd x);
     sessions = λ _ cs t. record-published s accepted ok few (sessionAfter s cs t .session) (in-form cs t) (held-after cs t) (orderIn s cs)
         (subst⁻¹ (λ (x : Journal). Agrees x (orderIn s cs)) (holds cs t) (order-is (netOf s) ok cs));
     sound = λ _ r S. record-published s accepted ok few r (S .form) (held s r S) (laterWithCommon (heldIn s r)) (λ u i v k. ((λ x. x), λ x. x));

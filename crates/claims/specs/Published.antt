@@ -17,7 +17,7 @@ use Rattle.published.specs.States.{Marks, IsMarking, EachInOnePlace, Keys, noKe
 use Rattle.published.specs.Forward.{Enabled, firedMarks, firedKeys}
 use Rattle.published.specs.Backtracking.{BacktrackEnabled, reversedMarks, reversedKeys}
 use Rattle.published.specs.Causal.{Order, noOrder, CausalEnabled}
-use Rattle.published.specs.Sheets.{petriNet, marksOf, keysOf, orderAfter, laterWithCommon}
+use Rattle.published.specs.Sheets.{petriNet, marksOf, historyOf, orderAfter, laterWithCommon}
 use Rattle.format.specs.NetOf.{netOf}
 use Rattle.sheet.specs.Checks.{sheetChecks}
 use Rattle.tally.specs.declared.Tally.{Tally}
@@ -32,8 +32,8 @@ use Rattle.claims.specs.Demands.{sessionAfter}
 abbrev pub marksIn : List ℕ → Record → Marks
 marksIn s r = marksOf (netOf s) (heldIn s r .marking)
 
-abbrev pub keysIn : List ℕ → Record → Keys
-keysIn s r = keysOf (heldIn s r)
+abbrev pub historyIn : List ℕ → Record → Keys
+historyIn s r = historyOf (heldIn s r)
 
 -- ≺ after the commands, from the empty relation
 abbrev pub orderIn : List ℕ → List (List ℕ) → Order
@@ -42,16 +42,16 @@ orderIn s cs = orderAfter (netOf s) cs (begin (netOf s)) noOrder
 -- ---- What a command does
 
 -- The command c fires the transition v: it is answered Fired, and gives the marking of Definition 5.
-pub record Fires (s : List ℕ) (r : Record) (t : Tally) (c : List ℕ) (v : Transition) : Type 0 where
+pub record CommandFires (s : List ℕ) (r : Record) (t : Tally) (c : List ℕ) (v : Transition) : Type 0 where
   pub answer : commandOf s r t c .outcome .answer ≡ Fired
   pub marking : (x : ℕ) (i : Item) → Iff (marksIn s (commandOf s r t c .outcome .session) x i) (firedMarks (petriNet (netOf s)) (marksIn s r) v x i)
 
 -- The command c takes back the latest firing of v: it is answered Undone, and gives the marking and the history of
 -- Definition 7, which are those of Definition 12.
-pub record TakesBack (s : List ℕ) (r : Record) (t : Tally) (c : List ℕ) (v : Transition) : Type 0 where
+pub record CommandTakesBack (s : List ℕ) (r : Record) (t : Tally) (c : List ℕ) (v : Transition) : Type 0 where
   pub answer : commandOf s r t c .outcome .answer ≡ Undone
   pub marking : (x : ℕ) (i : Item) → Iff (marksIn s (commandOf s r t c .outcome .session) x i) (reversedMarks (petriNet (netOf s)) (marksIn s r) v x i)
-  pub keys : (u : Transition) (k : ℕ) → Iff (keysIn s (commandOf s r t c .outcome .session) u k) (reversedKeys (keysIn s r) v u k)
+  pub keys : (u : Transition) (k : ℕ) → Iff (historyIn s (commandOf s r t c .outcome .session) u k) (reversedKeys (historyIn s r) v u k)
 
 -- ---- A record r, with the relation R for ≺, and every command on it
 
@@ -63,28 +63,28 @@ pub record AsPublished (s : List ℕ) (r : Record) (R : Order) : Type 0 where
   -- (Definition 4); and it is answered Fired only then.
   pub fires : (t : Tally) (c : List ℕ) → clear (readChecks c) ≡ true → eqb (kindOf c) 1 ≡ true → clear (spaceChecks (heldIn s r)) ≡ true
       → petriNet (netOf s) .isTransition (transitionNamed c) × Enabled (petriNet (netOf s)) (marksIn s r) (transitionNamed c)
-      → Fires s r t c (transitionNamed c)
+      → CommandFires s r t c (transitionNamed c)
   pub firesOnly : (t : Tally) (c : List ℕ) → commandOf s r t c .outcome .answer ≡ Fired
       → petriNet (netOf s) .isTransition (transitionNamed c) × Enabled (petriNet (netOf s)) (marksIn s r) (transitionNamed c)
   -- Kind 2. Where the command can be read, it takes back the latest firing of the transition that is bt-enabled (Definition
   -- 6); and it is answered Undone only if there is one.
   pub undoesLast : (t : Tally) (c : List ℕ) → clear (readChecks c) ≡ true → eqb (kindOf c) 2 ≡ true
-      → (v : Transition) → BacktrackEnabled (petriNet (netOf s)) (keysIn s r) v → TakesBack s r t c v
+      → (v : Transition) → BacktrackEnabled (petriNet (netOf s)) (historyIn s r) v → CommandTakesBack s r t c v
   pub undoesLastOnly : (t : Tally) (c : List ℕ) → eqb (kindOf c) 2 ≡ true → commandOf s r t c .outcome .answer ≡ Undone
-      → (v : Transition) × BacktrackEnabled (petriNet (netOf s)) (keysIn s r) v
+      → (v : Transition) × BacktrackEnabled (petriNet (netOf s)) (historyIn s r) v
   -- Kind 3. Where the command can be read, it takes back the latest firing of a transition that is c-enabled (Definition 11)
   -- if its number is that firing's key; and it is answered Undone only then.
   pub undoes : (t : Tally) (c : List ℕ) → clear (readChecks c) ≡ true → eqb (kindOf c) 3 ≡ true
-      → (v : Transition) → CausalEnabled (petriNet (netOf s)) (marksIn s r) (keysIn s r) R v → Max (keysIn s r v) (numberOf c) → TakesBack s r t c v
+      → (v : Transition) → CausalEnabled (petriNet (netOf s)) (marksIn s r) (historyIn s r) R v → Max (historyIn s r v) (numberOf c) → CommandTakesBack s r t c v
   pub undoesOnly : (t : Tally) (c : List ℕ) → eqb (kindOf c) 3 ≡ true → commandOf s r t c .outcome .answer ≡ Undone
-      → (v : Transition) × CausalEnabled (petriNet (netOf s)) (marksIn s r) (keysIn s r) R v × Max (keysIn s r v) (numberOf c)
+      → (v : Transition) × CausalEnabled (petriNet (netOf s)) (marksIn s r) (historyIn s r) R v × Max (historyIn s r v) (numberOf c)
   -- ≺ is document 01's dependence: of higher key, with a common moved base
   pub order : (u : Transition) (i : ℕ) (v : Transition) (k : ℕ) → Iff (R u i v k) (laterWithCommon (heldIn s r) u i v k)
 
 -- A firing gives the history of Definition 5. (T-03 changes this claim alone.)
 abbrev pub KeysAsPublished : List ℕ → Record → Type 0
 KeysAsPublished s r = (t : Tally) (c : List ℕ) → commandOf s r t c .outcome .answer ≡ Fired
-    → (u : Transition) (k : ℕ) → Iff (keysIn s (commandOf s r t c .outcome .session) u k) (firedKeys (petriNet (netOf s)) (keysIn s r) (transitionNamed c) u k)
+    → (u : Transition) (k : ℕ) → Iff (historyIn s (commandOf s r t c .outcome .session) u k) (firedKeys (petriNet (netOf s)) (historyIn s r) (transitionNamed c) u k)
 
 -- ---- All of it, of every accepted sheet: its net is one of Definition 2 and well-formed (Definition 3); the history of a fresh
 -- record is empty; and, for a well-formed net, every record that a session can reach from a fresh one, and every sound
@@ -94,7 +94,7 @@ KeysAsPublished s r = (t : Tally) (c : List ℕ) → commandOf s r t c .outcome 
 pub record FollowsPublished (s : List ℕ) : Type 0 where
   pub definition2 : Definition2 (petriNet (netOf s))
   pub wellFormed : WellFormed (petriNet (netOf s))
-  pub initial : (t : Tally) (u : Transition) (k : ℕ) → Iff (keysIn s (sessionAfter s [] t .session) u k) (noKeys u k)
+  pub initial : (t : Tally) (u : Transition) (k : ℕ) → Iff (historyIn s (sessionAfter s [] t .session) u k) (noKeys u k)
   pub sessions : WellFormed (petriNet (netOf s)) → (cs : List (List ℕ)) (t : Tally) → AsPublished s (sessionAfter s cs t .session) (orderIn s cs)
   pub sound : WellFormed (petriNet (netOf s)) → (r : Record) → Sound s r → AsPublished s r (laterWithCommon (heldIn s r))
   pub keys : (cs : List (List ℕ)) (t : Tally) → KeysAsPublished s (sessionAfter s cs t .session)

@@ -4,12 +4,12 @@
 // document 01; the tally has one more in one count, and a refused command hands back the very record.
 mod same;
 
-use opening::start;
 use same::same_record;
 use session::Answer;
 use session::Record;
 use session::StartAnswer;
 use session::command_with;
+use session_start::start;
 use tally::Tally;
 
 pub struct Case {

@@ -26,10 +26,10 @@ use Rattle.groups.specs.Groups.{labelIn, side, groupsOf, goesTo}
 use Rattle.enabling.specs.Ready.{Ready}
 use Rattle.enabling.proofs.Readiness.{in-order}
 use Rattle.enabling.proofs.Grouping.{sent-here}
-use Rattle.engine.specs.Change.{Fits, withPlaces}
+use Rattle.engine.specs.Change.{HasRoom, withPlaces}
 
 module _ (n : ℕ) (t : Arcs) (m : Marking) (R : Ready n t m) where
-  pub fits : Fits t m
+  pub fits : HasRoom t m
   fits = record {
     order = in-order n t m R;
     low = λ b h. let (u, v) = R .range b h in let f = R .few in (u, omega arith);

@@ -10,7 +10,7 @@ ghost use Rattle.net.specs.Firing.{fire, undo, newBond};
 ghost use Rattle.format.specs.Arcs.{arcsIn};
 ghost use Rattle.marking.specs.Form.{bondsOf, markingOf, withBonds, laid, InOrder};
 ghost use Rattle.enabling.specs.Ready.{Ready};
-ghost use Rattle.engine.specs.Change.{Fits, stays, withPlaces};
+ghost use Rattle.engine.specs.Change.{HasRoom, stays, withPlaces};
 use bonds::labels;
 use enabling::is_in_bond;
 use format::out_bond;
@@ -27,7 +27,7 @@ use net::Place;
 // The marking with the transition's out-bonds, from the last to the first.
 // The bonds of a good marking and of an accepted transition are of bases of the net: so there is room for all.
 fn add_out_bonds(step: &[u8], m: Marking) -> Marking
-    requires { ⌜ Fits (arcsIn (now step)) m ⌝ }
+    requires { ⌜ HasRoom (arcsIn (now step)) m ⌝ }
     ensures { λ r. ⌜ r ≡ withBonds m (puts sameBond lessBond (arcsIn (now (step .entry)) .outBonds) (bondsOf m)) ⌝ }
 {
     let mut held = m;

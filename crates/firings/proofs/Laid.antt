@@ -15,12 +15,12 @@ use Rattle.net.specs.Limits.{maxLive}
 use Rattle.net.specs.Journal.{LiveLine, key, noLine}
 use Rattle.net.proofs.Tables.{length-table, getD-table}
 use Rattle.marking.specs.Form.{flags}
-use Rattle.firings.specs.Lines.{past, lineOf, linesIn, noFiring, firingOf, firingsOf}
+use Rattle.firings.specs.Lines.{past, asLine, linesIn, noFiring, firingOf, firingsOf}
 use Rattle.firings.specs.Form.{AsLines, Unused}
 use Rattle.firings.specs.declared.Firing.{Firing}
 
 -- a firing whose flags are those of its first n
-pub as-line : (n : ℕ) (f : Firing) → f .moved ≡ flags (take n (f .moved)) → f ≡ firingOf (lineOf n f)
+pub as-line : (n : ℕ) (f : Firing) → f .moved ≡ flags (take n (f .moved)) → f ≡ firingOf (asLine n f)
 as-line n f e = λ i. record { transition = f .transition; key = f .key; moved = e i }
 
 pub is-none : (f : Firing) → eqb (f .transition) 0 ≡ true → eqb (f .key .0) 0 ≡ true → f .moved ≡ flags [] → f ≡ noFiring
@@ -30,7 +30,7 @@ is-none f a b e =
     λ i. record { transition = t i; key = key (k i); moved = e i }
 
 -- one more
-pub as-lines-more : (n i : ℕ) (fs : List Firing) → AsLines n i fs → getD fs i past ≡ firingOf (lineOf n (getD fs i past)) → AsLines n (i + 1) fs
+pub as-lines-more : (n i : ℕ) (fs : List Firing) → AsLines n i fs → getD fs i past ≡ firingOf (asLine n (getD fs i past)) → AsLines n (i + 1) fs
 as-lines-more n i fs h e j k = test (eqb j i) (λ q. let p = eqb-true j i q in rw p e) (λ q. let p = eqb-false j i q in h j (omega arith))
 
 pub unused-more : (k i : ℕ) (fs : List Firing) → Unused k i fs → getD fs i past ≡ noFiring → Unused k (i + 1) fs
@@ -45,13 +45,13 @@ getD-front f (x ∷ xs) r d e (suc i) h = getD-front f xs r d e i (le-of-suc-le-
 pub firings-laid : (n k : ℕ) (fs : List Firing) → length fs ≡ maxLive → k ≤ maxLive → AsLines n k fs → Unused k maxLive fs → fs ≡ firingsOf (linesIn n k fs)
 firings-laid n k fs size few used free =
     let ls : List LiveLine = linesIn n k fs in
-    let lk : length ls ≡ k = length-table k (λ i. lineOf n (getD fs i past)) in
+    let lk : length ls ≡ k = length-table k (λ i. asLine n (getD fs i past)) in
     let mk : length (map firingOf ls) ≡ k = length-map ls firingOf ∙ lk in
     let rk : length (replicate (maxLive - length ls) noFiring) ≡ maxLive - length ls = length-replicate (maxLive - length ls) noFiring in
     let all : length (firingsOf ls) ≡ maxLive = (let a = length-append (map firingOf ls) (replicate (maxLive - length ls) noFiring) in omega arith) in
     ext-getD past fs (firingsOf ls) (size ∙ sym all) (λ i h. test (ltb i k)
     (λ q. let p = ltb-true i k q in
-    used i p ∙ sym (getD-front firingOf ls (replicate (maxLive - length ls) noFiring) noLine past i (omega arith) ∙ ap firingOf (getD-table k (λ j. lineOf n (getD fs j past)) i noLine p)))
+    used i p ∙ sym (getD-front firingOf ls (replicate (maxLive - length ls) noFiring) noLine past i (omega arith) ∙ ap firingOf (getD-table k (λ j. asLine n (getD fs j past)) i noLine p)))
     (λ q. let p = ltb-false i k q in
     let at : length (map firingOf ls) + (i - k) ≡ i = omega arith in
     free i p (omega arith)

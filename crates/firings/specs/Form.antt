@@ -9,7 +9,7 @@ use lib.ListN.{getD, take, drop}
 use Rattle.net.specs.Limits.{maxKey}
 use Rattle.net.specs.Tests.{all, table}
 use Rattle.marking.specs.Form.{clearFrom}
-use Rattle.firings.specs.Lines.{past, lineOf, noFiring, firingOf}
+use Rattle.firings.specs.Lines.{past, asLine, noFiring, firingOf}
 use Rattle.firings.specs.declared.Firing.{Firing}
 
 -- an unused entry
@@ -26,7 +26,7 @@ unusedInForm k fs = all isNoFiring (drop k fs)
 
 -- each of the first k is its line as a firing
 abbrev pub AsLines : ℕ → ℕ → List Firing → Type 0
-AsLines n k fs = (i : ℕ) → i < k → getD fs i past ≡ firingOf (lineOf n (getD fs i past))
+AsLines n k fs = (i : ℕ) → i < k → getD fs i past ≡ firingOf (asLine n (getD fs i past))
 
 -- each entry from k to m is unused
 abbrev pub Unused : ℕ → ℕ → List Firing → Type 0

@@ -16,11 +16,11 @@ abbrev pub past : Firing
 past = record { transition = 0; key = key 0; moved = [] }
 
 -- a firing as a line
-abbrev pub lineOf : ℕ → Firing → LiveLine
-lineOf n f = record { transition = transition (f .transition); key = f .key; moved = take n (f .moved) }
+abbrev pub asLine : ℕ → Firing → LiveLine
+asLine n f = record { transition = transition (f .transition); key = f .key; moved = take n (f .moved) }
 
 abbrev pub linesIn : ℕ → ℕ → List Firing → List LiveLine
-linesIn n k fs = table k (λ i. lineOf n (getD fs i past))
+linesIn n k fs = table k (λ i. asLine n (getD fs i past))
 
 -- an unused entry
 abbrev pub noFiring : Firing

@@ -15,9 +15,9 @@ abbrev pub lastKey : ℕ → List Firing → ℕ
 lastKey k fs = pick (eqb k 0) 0 (getD fs (k - 1) past .key .0)
 
 -- where the first of that key stands; the length of the list where there is none
-abbrev pub placeOf : ℕ → List ℕ → ℕ
-placeOf key [] = 0
-placeOf key (x ∷ xs) = pick (eqb x key) 0 (suc (placeOf key xs))
+abbrev pub indexOf : ℕ → List ℕ → ℕ
+indexOf key [] = 0
+indexOf key (x ∷ xs) = pick (eqb x key) 0 (suc (indexOf key xs))
 
 -- a firing of higher key moved a base that f moved
 abbrev pub builtOnIn : Firing → List Firing → Bool

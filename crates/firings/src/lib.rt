@@ -9,10 +9,10 @@ ghost use lib.ListN.{take, getD, length};
 ghost use Rattle.net.specs.Limits.{maxBases, maxLive};
 ghost use Rattle.net.specs.Tests.{pick, sameList};
 ghost use Rattle.firings.specs.Lines.{past, noFiring, closedUp};
-ghost use Rattle.firings.specs.Search.{lastKey, placeOf, builtOnIn};
+ghost use Rattle.firings.specs.Search.{lastKey, indexOf, builtOnIn};
 ghost use Rattle.firings.specs.Form.{isNoFiring, usedInForm, unusedInForm, AsLines, Unused, liveKeys, climbs};
-use form::clear_from;
 use marking::shares;
+use marking_form::clear_from;
 use net::Key;
 use net::MAX_BASES;
 use net::MAX_KEY;
@@ -150,9 +150,9 @@ pub fn last_key(firings: [Firing; MAX_LIVE], live: usize) -> u16
 }
 
 // Where the live firing of that key stands; `live` where there is none.
-pub fn place_of(firings: [Firing; MAX_LIVE], live: usize, key: Key) -> usize
+pub fn index_of(firings: [Firing; MAX_LIVE], live: usize, key: Key) -> usize
     requires { ⌜ live ≤ maxLive ⌝ }
-    ensures { λ r. ⌜ r ≡ placeOf (key .0) (liveKeys live firings) ⌝ }
+    ensures { λ r. ⌜ r ≡ indexOf (key .0) (liveKeys live firings) ⌝ }
 {
     let mut i = 0;
     while i < live {

@@ -18,13 +18,13 @@ startBondCount s = length (startBonds s) / bondWidth
 abbrev pub nthStartBond : List ℕ → ℕ → Bond
 nthStartBond s i = bondAt (startBonds s) (bondWidth * i)
 
-abbrev pub startOf : List ℕ → Marking
-startOf s = record { places = startPlaces s; bonds = table (startBondCount s) (nthStartBond s) }
+abbrev pub startMarking : List ℕ → Marking
+startMarking s = record { places = startPlaces s; bonds = table (startBondCount s) (nthStartBond s) }
 
 unfoldable pub netOf : List ℕ → Net
 netOf s = record {
   places = placesOf s;
   bases = basesOf s;
   transitions = table (transitionsOf s) (λ k. arcsIn (transitionBytes s (transition k)));
-  start = startOf s;
+  start = startMarking s;
 }

@@ -6,12 +6,12 @@ use marking::Marking;
 use net::Key;
 use net::MAX_BONDS;
 use net::MAX_LIVE;
-use opening::start;
 use session::Answer;
 use session::Counted;
 use session::Outcome;
 use session::Record;
 use session::command_with;
+use session_start::start;
 use tally::Tally;
 
 fn print_byte(x: u8) {

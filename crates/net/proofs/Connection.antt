@@ -10,7 +10,7 @@ use borrow.Author.Tests.{eqb-true, eq-eqb}
 use Rattle.causal.specs.Lists.{Mem}
 use Rattle.net.specs.Tests.{pick}
 use Rattle.net.specs.Net.{bond, hasBond}
-use Rattle.net.specs.Connection.{bonded, Leads, here, along, joined, labelling, label, connected}
+use Rattle.net.specs.Connection.{bonded, Leads, here, along, relabelled, labelling, label, connected}
 use Rattle.net.specs.declared.Bond.{Bond}
 use Rattle.net.proofs.Tests.{same-test, or-e, or-l, pick-same}
 use Rattle.net.proofs.Bonds.{has-mem, mem-has}
@@ -33,14 +33,14 @@ leads-sym {bs} (along {p = p} {r = r} a l) = leads-trans (leads-sym l) (along (b
 -- bases with one label keep having one
 labelling-same : (bs : List Bond) (f : ℕ → ℕ) (p q : ℕ) → f p ≡ f q → labelling f bs p ≡ labelling f bs q
 labelling-same [] f p q e = e
-labelling-same (b ∷ bs) f p q e = labelling-same bs (joined f b) p q (ap (λ (x : ℕ). pick (eqb x (f (b .hi))) (f (b .lo)) x) e)
+labelling-same (b ∷ bs) f p q e = labelling-same bs (relabelled f b) p q (ap (λ (x : ℕ). pick (eqb x (f (b .hi))) (f (b .lo)) x) e)
 
 -- a bond's ends get one label
 labelling-bond : (bs : List Bond) (f : ℕ → ℕ) (b : Bond) → Mem b bs → labelling f bs (b .lo) ≡ labelling f bs (b .hi)
 labelling-bond [] f b h = absurd h
-labelling-bond (c ∷ bs) f b (inl e) = labelling-same bs (joined f c) (b .lo) (b .hi)
+labelling-bond (c ∷ bs) f b (inl e) = labelling-same bs (relabelled f c) (b .lo) (b .hi)
     (rw (e, eq-eqb (f (c .hi)) (f (c .hi)) refl) (pick-same (eqb (f (c .lo)) (f (c .hi))) (f (c .lo))))
-labelling-bond (c ∷ bs) f b (inr h) = labelling-bond bs (joined f c) b h
+labelling-bond (c ∷ bs) f b (inr h) = labelling-bond bs (relabelled f c) b h
 
 pub leads-label : {bs : List Bond} {p q : ℕ} → Leads bs p q → label bs p ≡ label bs q
 leads-label {bs} (here e) = ap (label bs) e
@@ -52,7 +52,7 @@ leads-label {bs} (along {p = p} {r = r} a l) = go (or-e (hasBond (bond p r) bs) 
 
 -- Where one label means a chain in cs, and the bonds of bs are chains in cs, one label after bs means a chain in cs.
 module _ (cs : List Bond) where
-  joined-leads : (b : Bond) → Leads cs (b .lo) (b .hi) → (f : ℕ → ℕ) → ((p q : ℕ) → f p ≡ f q → Leads cs p q) → (p q : ℕ) → joined f b p ≡ joined f b q → Leads cs p q
+  joined-leads : (b : Bond) → Leads cs (b .lo) (b .hi) → (f : ℕ → ℕ) → ((p q : ℕ) → f p ≡ f q → Leads cs p q) → (p q : ℕ) → relabelled f b p ≡ relabelled f b q → Leads cs p q
   joined-leads b edge f ih p q d = go (eqb (f p) (f (b .hi))) (eqb (f q) (f (b .hi))) refl refl d
     where
       go : (x y : Bool) → eqb (f p) (f (b .hi)) ≡ x → eqb (f q) (f (b .hi)) ≡ y → pick x (f (b .lo)) (f p) ≡ pick y (f (b .lo)) (f q) → Leads cs p q
@@ -65,7 +65,7 @@ module _ (cs : List Bond) where
       → (p q : ℕ) → labelling f bs p ≡ labelling f bs q → Leads cs p q
   labelling-leads [] edges f ih p q e = ih p q e
   labelling-leads (b ∷ bs) edges f ih p q e =
-      labelling-leads bs (λ c h. edges c (inr h)) (joined f b) (joined-leads b (edges b (inl refl)) f ih) p q e
+      labelling-leads bs (λ c h. edges c (inr h)) (relabelled f b) (joined-leads b (edges b (inl refl)) f ih) p q e
 
 pub bond-leads : (bs : List Bond) (b : Bond) → hasBond b bs ≡ true → Leads bs (b .lo) (b .hi)
 bond-leads bs b h = along (or-l (hasBond b bs) (hasBond (bond (b .hi) (b .lo)) bs) h) (here refl)

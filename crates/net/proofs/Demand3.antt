@@ -19,7 +19,7 @@ use Rattle.net.specs.Marking.{Good}
 use Rattle.net.specs.Firing.{inSet, undo, Fires}
 use Rattle.net.specs.Checks.{clear, first}
 use Rattle.net.specs.Journal.{LiveLine, Journal, Reply, fired, transition, key, highestLive, lastGiven, fireChecks, fireReply, refuse, begin, act, play, answers}
-use Rattle.net.specs.Claims.{fireCommand, fireCommands, numbered, allFired, Forward, Demand3}
+use Rattle.net.specs.Claims.{fireCommand, fireCommands, numbered, allFired, Forward, LinesRunForward}
 use Rattle.net.specs.declared.Transition.{Transition}
 use Rattle.net.proofs.Moves.{view}
 use Rattle.net.proofs.Laws.{laws}
@@ -81,7 +81,7 @@ module _ (net : Net) (ok : netRule net ≡ true) where
       let (journal, ans) = run-all net ms [] (net .start) (j .marking) 0 run refl (omega arith) (omega arith) in
       record { journal = journal; answer = ans }
 
-  pub demand3 : (cs : List (List ℕ)) → Demand3 net cs
+  pub demand3 : (cs : List (List ℕ)) → LinesRunForward net cs
   demand3 cs =
       let j : Journal = play net cs (begin net) in
       let H : Held net j = played net ok cs in

@@ -41,7 +41,7 @@ pub record Forward (net : Net) (ls : List LiveLine) (z : Marking) : Type 0 where
 
 -- Demand 3 on the journal: the lines that are left run forward to the session's marking, in their own order and in
 -- every reordering that keeps the order of any two lines with a common base.
-pub record Demand3 (net : Net) (cs : List (List ℕ)) : Type 0 where
+pub record LinesRunForward (net : Net) (cs : List (List ℕ)) : Type 0 where
   pub inOrder : Forward net (play net cs (begin net) .lines) (play net cs (begin net) .marking)
   pub reordered : (ls : List LiveLine) → Reordering inSet (play net cs (begin net) .lines) ls → Forward net ls (play net cs (begin net) .marking)
 
@@ -79,7 +79,7 @@ JournalSound net = (cs : List (List ℕ)) → sound net (play net cs (begin net)
 -- ---- All of it
 
 pub record Claimed (net : Net) : Type 0 where
-  pub demand3 : (cs : List (List ℕ)) → Demand3 net cs
+  pub demand3 : (cs : List (List ℕ)) → LinesRunForward net cs
   pub totals : (cs : List (List ℕ)) → Totals net (play net cs (begin net))
   pub fewBonds : (cs : List (List ℕ)) → FewBonds net (play net cs (begin net) .marking)
   pub journalSound : JournalSound net

@@ -19,8 +19,8 @@ pub data Leads (bs : List Bond) : ℕ → ℕ → Type 0 where
   along : {p r q : ℕ} → bonded bs p r ≡ true → Leads bs r q → Leads bs p q
 
 -- A labelling after one more bond: the label of the bond's second end gives way to that of its first.
-abbrev pub joined : (ℕ → ℕ) → Bond → ℕ → ℕ
-joined f b =
+abbrev pub relabelled : (ℕ → ℕ) → Bond → ℕ → ℕ
+relabelled f b =
     let h : ℕ = f (b .hi) in
     let l : ℕ = f (b .lo) in
     λ p. let x : ℕ = f p in pick (eqb x h) l x
@@ -28,7 +28,7 @@ joined f b =
 -- A labelling after a list of bonds, taken in order.
 abbrev pub labelling : (ℕ → ℕ) → List Bond → ℕ → ℕ
 labelling f [] = f
-labelling f (b ∷ bs) = labelling (joined f b) bs
+labelling f (b ∷ bs) = labelling (relabelled f b) bs
 
 -- A base's label: at first each base has itself.
 abbrev pub label : List Bond → ℕ → ℕ

@@ -12,7 +12,7 @@ use Rattle.net.specs.Journal.{LiveLine}
 use Rattle.bonds.specs.Ends.{bondsIn}
 use Rattle.bonds.proofs.Fill.{map-table}
 use Rattle.marking.specs.declared.Marking.{Marking}
-use Rattle.firings.specs.Lines.{past, lineOf, linesIn}
+use Rattle.firings.specs.Lines.{past, asLine, linesIn}
 use Rattle.firings.specs.declared.Firing.{Firing}
 use Rattle.sound.specs.Soundness.{journalIn}
 use Rattle.tally.specs.declared.Tally.{Tally}
@@ -50,7 +50,7 @@ keys-first fs n ks h e = ap (take n) e ∙ take-table n maxLive (λ i. getD fs i
 
 -- the keys of the first firings are those of the lines that they hold
 keys-of-lines : (b k : ℕ) (fs : List Firing) → keysIn fs k ≡ keysLive (linesIn b k fs)
-keys-of-lines b k fs = sym (map-table (λ (l : LiveLine). l .key .0) k (λ i. lineOf b (getD fs i past)))
+keys-of-lines b k fs = sym (map-table (λ (l : LiveLine). l .key .0) k (λ i. asLine b (getD fs i past)))
 
 -- ---- The whole
 

@@ -7,7 +7,7 @@ use Rattle.text.specs.Decimal.{decimal}
 use Rattle.tally.specs.Counts.{oneMore, countedOf}
 use Rattle.format.specs.Parts.{partOf, transitionBytes}
 use Rattle.format.specs.NetOf.{netOf}
-use Rattle.sheet_start.specs.Conditions.{wrongSize, wrongVersion, wrongCounts, wrongPairs, wrongStartPlaces, wrongStartBonds}
+use Rattle.sheet_head.specs.Conditions.{wrongSize, wrongVersion, wrongCounts, wrongPairs, wrongStartPlaces, wrongStartBonds}
 use Rattle.sheet_arcs.specs.Conditions.{wrongWidth, wrongEntries}
 use Rattle.sheet_bonds.specs.Conditions.{wrongBonds}
 use Rattle.sheet.specs.Checks.{sheetChecks}

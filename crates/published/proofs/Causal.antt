@@ -27,7 +27,7 @@ use Rattle.net.proofs.Journal.{Held}
 use Rattle.published.specs.Sets.{Iff, Item, base, bond, Max}
 use Rattle.published.specs.Backtracking.{BacktrackEnabled, reversedMarks}
 use Rattle.published.specs.Causal.{Order, CausalEnabled}
-use Rattle.published.specs.Sheets.{anchor, Allowed, Present, petriNet, marksOf, keysOf}
+use Rattle.published.specs.Sheets.{anchor, Allowed, Present, petriNet, marksOf, historyOf}
 use Rattle.published.proofs.Firing.{goes-to}
 use Rattle.published.proofs.Reversal.{reversed-to, reversed-from}
 use Rattle.published.proofs.Lines.{one-line, line-live, live-line, highest-is, builtOn-e, builtOn-i}
@@ -87,7 +87,7 @@ module _ (net : Net) (ok : netRule net ≡ true) (j : Journal) (H : Held net j) 
   -- ---- Definition 11
 
   module _ (R : Order) (A : Agrees j R) where
-    enabled-undo : (k : Key) (t : Transition) → CausalEnabled (petriNet net) (marksOf net (j .marking)) (keysOf j) R t → Max (keysOf j t) (k .0)
+    enabled-undo : (k : Key) (t : Transition) → CausalEnabled (petriNet net) (marksOf net (j .marking)) (historyOf j) R t → Max (historyOf j t) (k .0)
         → (clear (undoChecks j k) ≡ true) × (lineOf k (j .lines) .transition ≡ t)
     enabled-undo k t D ((l, m, p, q), top) =
         let live : isLive k (j .lines) ≡ true = line-live (j .lines) l k m q in
@@ -101,25 +101,25 @@ module _ (net : Net) (ok : netRule net ≡ true) (j : Journal) (H : Held net j) 
             D .unused (k .0) ((l, m, p, q), top) (h .transition) (h .key .0) (h, n, refl, refl)
             (A t (k .0) (h .transition) (h .key .0) .1 (l, h, m, n, p, q, refl, refl, rw (← q) lt, c))
 
-    undo-enabled : (k : Key) → clear (undoChecks j k) ≡ true → CausalEnabled (petriNet net) (marksOf net (j .marking)) (keysOf j) R (lineOf k (j .lines) .transition)
+    undo-enabled : (k : Key) → clear (undoChecks j k) ≡ true → CausalEnabled (petriNet net) (marksOf net (j .marking)) (historyOf j) R (lineOf k (j .lines) .transition)
     undo-enabled k e = record {
       occurs = (k .0, undo-latest net ok j H k e .0);
       available = λ x i _ u. all-there (lineOf k (j .lines)) (left-alone k e) x i u;
       unused = λ n x u i _ r. no-later n x u i r;
     }
       where
-        no-later : (n : ℕ) → Max (keysOf j (lineOf k (j .lines) .transition)) n → (u : Transition) (i : ℕ) → R (lineOf k (j .lines) .transition) n u i → ⊥
+        no-later : (n : ℕ) → Max (historyOf j (lineOf k (j .lines) .transition)) n → (u : Transition) (i : ℕ) → R (lineOf k (j .lines) .transition) n u i → ⊥
         no-later n x u i r =
             let (l, h, a, b, p, q, p′, q′, lt, c) = A (lineOf k (j .lines) .transition) n u i .0 r in
-            let d : n ≡ k .0 = one-max (keysOf j (lineOf k (j .lines) .transition)) n (k .0) x (undo-latest net ok j H k e) in
+            let d : n ≡ k .0 = one-max (historyOf j (lineOf k (j .lines) .transition)) n (k .0) x (undo-latest net ok j H k e) in
             let same : l ≡ lineOf k (j .lines) = one-line (j .lines) (H .up) l (lineOf k (j .lines)) a (undo-mem net ok j H k e) (q ∙ d ∙ sym (undo-key net ok j H k e)) in
             both (builtOn (j .lines) (lineOf k (j .lines))) (subst (λ (y : LiveLine). builtOn (j .lines) y ≡ true) same (builtOn-i (j .lines) l h b (rw (q, q′) lt) c)) (undo-free net ok j H k e)
 
     pub undo-iff : (k : Key) (t : Transition) → Iff
         ((clear (undoChecks j k) ≡ true) × (lineOf k (j .lines) .transition ≡ t))
-        (CausalEnabled (petriNet net) (marksOf net (j .marking)) (keysOf j) R t × Max (keysOf j t) (k .0))
+        (CausalEnabled (petriNet net) (marksOf net (j .marking)) (historyOf j) R t × Max (historyOf j t) (k .0))
     undo-iff k t = (
-      (λ (e, q). subst (λ (w : Transition). CausalEnabled (petriNet net) (marksOf net (j .marking)) (keysOf j) R w × Max (keysOf j w) (k .0)) q (undo-enabled k e, undo-latest net ok j H k e)),
+      (λ (e, q). subst (λ (w : Transition). CausalEnabled (petriNet net) (marksOf net (j .marking)) (historyOf j) R w × Max (historyOf j w) (k .0)) q (undo-enabled k e, undo-latest net ok j H k e)),
       (λ (D, x). enabled-undo k t D x),
     )
 
@@ -136,13 +136,13 @@ module _ (net : Net) (ok : netRule net ≡ true) (j : Journal) (H : Held net j) 
 
   pub last-iff : (t : Transition) → Iff
       ((clear (undoChecks j (key (highestLive (j .lines)))) ≡ true) × (lineOf (key (highestLive (j .lines))) (j .lines) .transition ≡ t))
-      (BacktrackEnabled (petriNet net) (keysOf j) t)
+      (BacktrackEnabled (petriNet net) (historyOf j) t)
   last-iff t = (
     (λ (e, q). (highestLive (j .lines), (lineOf last (j .lines), undo-mem net ok j H last e, q, undo-key net ok j H last e), λ u i _ (h, n, _, d). let a = mem-highest (j .lines) h n in omega arith)),
     (λ (k, (l, m, p, q), top). latest k l m p q (highest k l m q top)),
   )
     where
-      highest : (k : ℕ) (l : LiveLine) → Mem l (j .lines) → l .key .0 ≡ k → ((u : Transition) (i : ℕ) → petriNet net .isTransition u → keysOf j u i → i ≤ k) → l .key .0 ≡ highestLive (j .lines)
+      highest : (k : ℕ) (l : LiveLine) → Mem l (j .lines) → l .key .0 ≡ k → ((u : Transition) (i : ℕ) → petriNet net .isTransition u → historyOf j u i → i ≤ k) → l .key .0 ≡ highestLive (j .lines)
       highest k l m q top = go (highest-is (j .lines))
         where
           go : (highestLive (j .lines) ≡ 0) ⊎ ((h : LiveLine) × Mem h (j .lines) × (h .key .0 ≡ highestLive (j .lines))) → l .key .0 ≡ highestLive (j .lines)

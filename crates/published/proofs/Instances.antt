@@ -18,7 +18,7 @@ use Rattle.published.specs.States.{Marks}
 use Rattle.published.specs.Forward.{Enabled, leaves, firedMarks}
 use Rattle.published.specs.Backtracking.{BacktrackEnabled, reversedMarks}
 use Rattle.published.specs.Causal.{noOrder, CausalEnabled}
-use Rattle.published.specs.Sheets.{petriNet, marksOf, keysOf, orderAfter}
+use Rattle.published.specs.Sheets.{petriNet, marksOf, historyOf, orderAfter}
 use Rattle.published.specs.Claims.{AsPublished}
 use Rattle.published.proofs.Claims.{published-B}
 
@@ -66,25 +66,25 @@ not-enabled-M10 = not-enabled 3 refl (omega arith)
 abbrev firings : List (List ℕ)
 firings = fireOf 0 ∷ fireOf 1 ∷ fireOf 2 ∷ []
 
-pub not-causal-M3 : CausalEnabled N (marksOf netB (after firings .marking)) (keysOf (after firings)) (orderAfter netB firings (begin netB) noOrder) (transition 0) → ⊥
+pub not-causal-M3 : CausalEnabled N (marksOf netB (after firings .marking)) (historyOf (after firings)) (orderAfter netB firings (begin netB) noOrder) (transition 0) → ⊥
 not-causal-M3 D = both (clear (undoChecks (after firings) (key 1))) (shown firings .causal (key 1) (transition 0) .1 (D, latest) .0) refl
   where
-    below : (k : ℕ) → keysOf (after firings) (transition 0) k → k ≤ 1
+    below : (k : ℕ) → historyOf (after firings) (transition 0) k → k ≤ 1
     below k (l, inl m, p, q) = rw (← q, m) (omega arith)
     below k (l, inr (inl m), p, q) = absurd (both false (ap (λ (t : Transition). eqb (t .0) 1) (sym p ∙ ap (λ (x : LiveLine). x .transition) m)) refl)
     below k (l, inr (inr (inl m)), p, q) = absurd (both false (ap (λ (t : Transition). eqb (t .0) 2) (sym p ∙ ap (λ (x : LiveLine). x .transition) m)) refl)
     below k (l, inr (inr (inr m)), p, q) = absurd m
 
-    latest : Max (keysOf (after firings) (transition 0)) 1
+    latest : Max (historyOf (after firings) (transition 0)) 1
     latest = ((_, inl refl, refl, refl), below)
 
-pub causal-M5 : CausalEnabled N (marksOf netB (after firings .marking)) (keysOf (after firings)) (orderAfter netB firings (begin netB) noOrder) (transition 1)
+pub causal-M5 : CausalEnabled N (marksOf netB (after firings .marking)) (historyOf (after firings)) (orderAfter netB firings (begin netB) noOrder) (transition 1)
 causal-M5 = shown firings .causal (key 2) (transition 1) .0 (refl, refl) .0
 
 pub returned-M5 : reversedMarks N (marksOf netB (after firings .marking)) (transition 1) 1 (base 2)
 returned-M5 = shown firings .undoes (key 2) refl 1 (base 2) .0 (omega arith, refl)
 
-pub last-M4 : BacktrackEnabled N (keysOf (after firings)) (transition 2)
+pub last-M4 : BacktrackEnabled N (historyOf (after firings)) (transition 2)
 last-M4 = shown firings .last (transition 2) .0 (refl, refl)
 
 -- ---- The reading of Definition 5: transition 2 takes base 1 from place 0 and puts it there. By the first of the chapter's

@@ -18,7 +18,7 @@ use Rattle.net.proofs.Checks.{clear-off}
 use Rattle.net.proofs.Journal.{Held}
 use Rattle.published.specs.Sets.{Iff, Max}
 use Rattle.published.specs.Backtracking.{reversedKeys}
-use Rattle.published.specs.Sheets.{keysOf}
+use Rattle.published.specs.Sheets.{historyOf}
 use Rattle.published.proofs.Arcs.{some-entry}
 use Rattle.published.proofs.Lines.{one-line, live-line, mem-without, without-mem, builtOn-i}
 use Rattle.published.proofs.Sessions.{line-listed, entry-in-line}
@@ -54,19 +54,19 @@ module _ (net : Net) (ok : netRule net ≡ true) (j : Journal) (H : Held net j) 
         undo-free)
         (λ c. ltb-false (k .0) (l .key .0) c)
 
-    pub undo-latest : Max (keysOf j (lineOf k (j .lines) .transition)) (k .0)
+    pub undo-latest : Max (historyOf j (lineOf k (j .lines) .transition)) (k .0)
     undo-latest = ((lineOf k (j .lines), undo-mem, refl, undo-key), λ i (l, m, q, d). let a = latest l m q in omega arith)
 
-    reversed-keys-to : (u : Transition) (i : ℕ) → keysOf (undoReply net j k .journal) u i → reversedKeys (keysOf j) (lineOf k (j .lines) .transition) u i
+    reversed-keys-to : (u : Transition) (i : ℕ) → historyOf (undoReply net j k .journal) u i → reversedKeys (historyOf j) (lineOf k (j .lines) .transition) u i
     reversed-keys-to u i (l, m, q, d) =
         let (n, other) = mem-without k (j .lines) l m in
-        ((l, n, q, d), λ (_, x). other (d ∙ one-max (keysOf j (lineOf k (j .lines) .transition)) i (k .0) x undo-latest))
+        ((l, n, q, d), λ (_, x). other (d ∙ one-max (historyOf j (lineOf k (j .lines) .transition)) i (k .0) x undo-latest))
 
-    reversed-keys-from : (u : Transition) (i : ℕ) → reversedKeys (keysOf j) (lineOf k (j .lines) .transition) u i → keysOf (undoReply net j k .journal) u i
-    reversed-keys-from u i ((l, m, q, d), out) = (l, without-mem k (j .lines) l m (λ c. out (same c, subst (Max (keysOf j (lineOf k (j .lines) .transition))) (sym c ∙ d) undo-latest)), q, d)
+    reversed-keys-from : (u : Transition) (i : ℕ) → reversedKeys (historyOf j) (lineOf k (j .lines) .transition) u i → historyOf (undoReply net j k .journal) u i
+    reversed-keys-from u i ((l, m, q, d), out) = (l, without-mem k (j .lines) l m (λ c. out (same c, subst (Max (historyOf j (lineOf k (j .lines) .transition))) (sym c ∙ d) undo-latest)), q, d)
       where
         same : l .key .0 ≡ k .0 → u ≡ lineOf k (j .lines) .transition
         same c = sym q ∙ ap (λ (x : LiveLine). x .transition) (one-line (j .lines) (H .up) l (lineOf k (j .lines)) m undo-mem (c ∙ sym undo-key))
 
-    pub reversed-keys : (u : Transition) (i : ℕ) → Iff (keysOf (undoReply net j k .journal) u i) (reversedKeys (keysOf j) (lineOf k (j .lines) .transition) u i)
+    pub reversed-keys : (u : Transition) (i : ℕ) → Iff (historyOf (undoReply net j k .journal) u i) (reversedKeys (historyOf j) (lineOf k (j .lines) .transition) u i)
     reversed-keys u i = (reversed-keys-to u i, reversed-keys-from u i)

@@ -28,7 +28,7 @@ use Rattle.net.proofs.Keys.{mem-highest, mem-snoc}
 use Rattle.net.proofs.Journal.{Held, enabled-fires, checks-kind, act-held, begin-held}
 use Rattle.published.specs.Sets.{Iff, base, Max}
 use Rattle.published.specs.Causal.{Uses, Order, noOrder, firedOrder, reversedOrder}
-use Rattle.published.specs.Sheets.{petriNet, marksOf, keysOf, orderStep, orderAfter, laterWithCommon}
+use Rattle.published.specs.Sheets.{petriNet, marksOf, historyOf, orderStep, orderAfter, laterWithCommon}
 use Rattle.published.proofs.Components.{con-leads, leads-con}
 use Rattle.published.proofs.Enabling.{at-home}
 use Rattle.published.proofs.Firing.{led-moves, moves-led}
@@ -78,10 +78,10 @@ module _ (net : Net) (ok : netRule net ≡ true) (j : Journal) (H : Held net j) 
     j′ = fireReply net j t .journal
 
     abbrev R′ : Order
-    R′ = firedOrder (petriNet net) (marksOf net (j .marking)) (keysOf (fireReply net j t .journal)) R t
+    R′ = firedOrder (petriNet net) (marksOf net (j .marking)) (historyOf (fireReply net j t .journal)) R t
 
     -- the new key is the highest
-    newest : Max (keysOf j′ t) (new .key .0)
+    newest : Max (historyOf j′ t) (new .key .0)
     newest = ((new, mem-last (j .lines) new, refl, refl), λ i (l, m, _, q). below i l q (mem-snoc (j .lines) new l m))
       where
         below : (i : ℕ) (l : LiveLine) → l .key .0 ≡ i → Mem l (j .lines) ⊎ (l ≡ newLine net j t) → i ≤ newLine net j t .key .0
@@ -93,7 +93,7 @@ module _ (net : Net) (ok : netRule net ≡ true) (j : Journal) (H : Held net j) 
         let (l, h, a, b, p, q, p′, q′, lt, c) = A u i v k .0 r in
         (l, h, mem-left (j .lines) (new ∷ []) l a, mem-left (j .lines) (new ∷ []) h b, p, q, p′, q′, lt, c)
     fired-order-to u i v k (inr (same, (o, (l, m, p, q), x, lt, uses))) =
-        go (one-max (keysOf j′ t) k (new .key .0) x newest) (mem-snoc (j .lines) new l m)
+        go (one-max (historyOf j′ t) k (new .key .0) x newest) (mem-snoc (j .lines) new l m)
       where
         go : k ≡ newLine net j t .key .0 → Mem l (j .lines) ⊎ (l ≡ newLine net j t) → laterWithCommon (fireReply net j t .journal) u i v k
         go top (inl n) = (
@@ -113,20 +113,20 @@ module _ (net : Net) (ok : netRule net ≡ true) (j : Journal) (H : Held net j) 
     fired-order-from : (u : Transition) (i : ℕ) (v : Transition) (k : ℕ) → laterWithCommon j′ u i v k → R′ u i v k
     fired-order-from u i v k (l, h, a, b, p, q, p′, q′, lt, c) = go (mem-snoc (j .lines) new l a) (mem-snoc (j .lines) new h b)
       where
-        go : Mem l (j .lines) ⊎ (l ≡ newLine net j t) → Mem h (j .lines) ⊎ (h ≡ newLine net j t) → firedOrder (petriNet net) (marksOf net (j .marking)) (keysOf (fireReply net j t .journal)) R t u i v k
+        go : Mem l (j .lines) ⊎ (l ≡ newLine net j t) → Mem h (j .lines) ⊎ (h ≡ newLine net j t) → firedOrder (petriNet net) (marksOf net (j .marking)) (historyOf (fireReply net j t .journal)) R t u i v k
         go (inl m) (inl n) = inl (A u i v k .1 (l, h, m, n, p, q, p′, q′, lt, c))
         go (inr d) (inl n) = let x = mem-highest (j .lines) h n in let y = key-of d in absurd (let z : ⊥ = omega arith in z)
         go (inr d) (inr f) = let x = key-of d in let y = key-of f in absurd (let z : ⊥ = omega arith in z)
         go (inl m) (inr f) =
             let top : new .key .0 ≡ k = sym (key-of f) ∙ q′ in
-            let (o, low) = subst (Max (keysOf j′ t)) top newest in
+            let (o, low) = subst (Max (historyOf j′ t)) top newest in
             let c′ : Dependent inSet (l .moved) (new .moved) = subst (λ (x : LiveLine). Dependent inSet (l .moved) (x .moved)) f c in
             inr (
               sym p′ ∙ ap (λ (x : LiveLine). x .transition) f,
               (o, (l, a, p, q), (o, low), lt, subst (λ (w : Transition). Uses (petriNet net) (marksOf net (j .marking)) t w) p (common-uses t e l m c′)),
             )
 
-    pub fired-order : Agrees (fireReply net j t .journal) (firedOrder (petriNet net) (marksOf net (j .marking)) (keysOf (fireReply net j t .journal)) R t)
+    pub fired-order : Agrees (fireReply net j t .journal) (firedOrder (petriNet net) (marksOf net (j .marking)) (historyOf (fireReply net j t .journal)) R t)
     fired-order u i v k = (fired-order-to u i v k, fired-order-from u i v k)
 
   -- ---- Definition 12
@@ -135,10 +135,10 @@ module _ (net : Net) (ok : netRule net ≡ true) (j : Journal) (H : Held net j) 
     abbrev old : LiveLine
     old = lineOf k (j .lines)
 
-    reversed-order-to : (u : Transition) (i : ℕ) (v : Transition) (n : ℕ) → reversedOrder (keysOf j) R (old .transition) u i v n → laterWithCommon (undoReply net j k .journal) u i v n
+    reversed-order-to : (u : Transition) (i : ℕ) (v : Transition) (n : ℕ) → reversedOrder (historyOf j) R (old .transition) u i v n → laterWithCommon (undoReply net j k .journal) u i v n
     reversed-order-to u i v n (r, out) =
         let (l, h, a, b, p, q, p′, q′, lt, c) = A u i v n .0 r in
-        let h-stays : h .key .0 ≡ k .0 → ⊥ = λ d. out (subst (Max (keysOf j (old .transition))) (sym d ∙ q′) (undo-latest net ok j H k e)) in
+        let h-stays : h .key .0 ≡ k .0 → ⊥ = λ d. out (subst (Max (historyOf j (old .transition))) (sym d ∙ q′) (undo-latest net ok j H k e)) in
         let l-stays : l .key .0 ≡ k .0 → ⊥ = λ d. taken l h a b d (rw (q, q′) lt) c in
         (l, h, without-mem k (j .lines) l a l-stays, without-mem k (j .lines) h b h-stays, p, q, p′, q′, lt, c)
       where
@@ -147,13 +147,13 @@ module _ (net : Net) (ok : netRule net ≡ true) (j : Journal) (H : Held net j) 
             let same : l ≡ old = one-line (j .lines) (H .up) l old a (undo-mem net ok j H k e) (d ∙ sym (undo-key net ok j H k e)) in
             both (builtOn (j .lines) old) (subst (λ (x : LiveLine). builtOn (j .lines) x ≡ true) same (builtOn-i (j .lines) l h b lt c)) (undo-free net ok j H k e)
 
-    reversed-order-from : (u : Transition) (i : ℕ) (v : Transition) (n : ℕ) → laterWithCommon (undoReply net j k .journal) u i v n → reversedOrder (keysOf j) R (old .transition) u i v n
+    reversed-order-from : (u : Transition) (i : ℕ) (v : Transition) (n : ℕ) → laterWithCommon (undoReply net j k .journal) u i v n → reversedOrder (historyOf j) R (old .transition) u i v n
     reversed-order-from u i v n (l, h, a, b, p, q, p′, q′, lt, c) =
         let (a′, _) = mem-without k (j .lines) l a in
         let (b′, other) = mem-without k (j .lines) h b in
-        (A u i v n .1 (l, h, a′, b′, p, q, p′, q′, lt, c), λ x. other (q′ ∙ one-max (keysOf j (old .transition)) n (k .0) x (undo-latest net ok j H k e)))
+        (A u i v n .1 (l, h, a′, b′, p, q, p′, q′, lt, c), λ x. other (q′ ∙ one-max (historyOf j (old .transition)) n (k .0) x (undo-latest net ok j H k e)))
 
-    pub reversed-order : Agrees (undoReply net j k .journal) (reversedOrder (keysOf j) R (old .transition))
+    pub reversed-order : Agrees (undoReply net j k .journal) (reversedOrder (historyOf j) R (old .transition))
     reversed-order u i v n = (reversed-order-to u i v n, reversed-order-from u i v n)
 
 -- ---- every command, and a list of commands

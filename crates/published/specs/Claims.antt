@@ -15,7 +15,7 @@ use Rattle.published.specs.States.{Marks, IsMarking, EachInOnePlace, noK
 use Rattle.published.specs.Forward.{Enabled, leaves, comes, firedMarks, firedKeys}
 use Rattle.published.specs.Backtracking.{BacktrackEnabled, leavesBack, comesBack, reversedMarks, reversedKeys}
 use Rattle.published.specs.Causal.{Order, noOrder, CausalEnabled}
-use Rattle.published.specs.Sheets.{petriNet, marksOf, keysOf, orderAfter, laterWithCommon}
+use Rattle.published.specs.Sheets.{petriNet, marksOf, historyOf, orderAfter, laterWithCommon}
 
 -- ---- The reading of Definitions 5 and 7: where a place is not both incoming and outgoing, the one formula is the chapter's
 -- three cases
@@ -44,23 +44,23 @@ pub record AsPublished (net : Net) (j : Journal) (R : Order) : Type 0 where
   -- kind 2 is accepted, and takes back a firing of t, exactly where t is bt-enabled (Definition 6)
   pub last : (t : Transition) → Iff
       ((clear (undoChecks j (key (highestLive (j .lines)))) ≡ true) × (lineOf (key (highestLive (j .lines))) (j .lines) .transition ≡ t))
-      (BacktrackEnabled (petriNet net) (keysOf j) t)
+      (BacktrackEnabled (petriNet net) (historyOf j) t)
   -- ≺ is "of higher key, with a common moved base"
   pub order : (u : Transition) (i : ℕ) (t : Transition) (k : ℕ) → Iff (R u i t k) (laterWithCommon j u i t k)
   -- neither 19 nor 20 refuses the key k, a firing of t, exactly where t is c-enabled (Definition 11) and k its highest key
   pub causal : (k : Key) (t : Transition) → Iff
       ((clear (undoChecks j k) ≡ true) × (lineOf k (j .lines) .transition ≡ t))
-      (CausalEnabled (petriNet net) (marksOf net (j .marking)) (keysOf j) R t × Max (keysOf j t) (k .0))
+      (CausalEnabled (petriNet net) (marksOf net (j .marking)) (historyOf j) R t × Max (historyOf j t) (k .0))
   -- taking back, the last firing or an earlier one, gives the marking and the history of Definition 7, which are
   -- Definition 12's too
   pub undoes : (k : Key) → clear (undoChecks j k) ≡ true
       → (x : ℕ) (i : Item) → Iff (marksOf net (undoReply net j k .journal .marking) x i) (reversedMarks (petriNet net) (marksOf net (j .marking)) (lineOf k (j .lines) .transition) x i)
   pub undoneKeys : (k : Key) → clear (undoChecks j k) ≡ true
-      → (u : Transition) (i : ℕ) → Iff (keysOf (undoReply net j k .journal) u i) (reversedKeys (keysOf j) (lineOf k (j .lines) .transition) u i)
+      → (u : Transition) (i : ℕ) → Iff (historyOf (undoReply net j k .journal) u i) (reversedKeys (historyOf j) (lineOf k (j .lines) .transition) u i)
 
 -- A firing gives the history of Definition 5. (T-03 changes this claim alone.)
 abbrev pub KeysAsPublished : Net → Journal → Type 0
-KeysAsPublished net j = (t u : Transition) (k : ℕ) → Iff (keysOf (fireReply net j t .journal) u k) (firedKeys (petriNet net) (keysOf j) t u k)
+KeysAsPublished net j = (t u : Transition) (k : ℕ) → Iff (historyOf (fireReply net j t .journal) u k) (firedKeys (petriNet net) (historyOf j) t u k)
 
 -- ---- All of it, of a net and every list of commands on it. ≺ is what Definitions 10 and 12 keep over the commands. `states` is
 -- claimed of well-formed nets; that the net is one is a claim of its own, so that T-07, whose sheets need not keep
@@ -69,6 +69,6 @@ KeysAsPublished net j = (t u : Transition) (k : ℕ) → Iff (keysOf (fireReply 
 pub record Published (net : Net) : Type 0 where
   pub definition2 : Definition2 (petriNet net)
   pub wellFormed : WellFormed (petriNet net)
-  pub initial : (t : Transition) (k : ℕ) → Iff (keysOf (begin net) t k) (noKeys t k)
+  pub initial : (t : Transition) (k : ℕ) → Iff (historyOf (begin net) t k) (noKeys t k)
   pub states : WellFormed (petriNet net) → (cs : List (List ℕ)) → AsPublished net (play net cs (begin net)) (orderAfter net cs (begin net) noOrder)
   pub keys : (cs : List (List ℕ)) → KeysAsPublished net (play net cs (begin net))

@@ -53,14 +53,14 @@ abbrev pub marksOf : Net → Marking → Marks
 marksOf net s x i = Present net s i × (place s (anchor i) ≡ x)
 
 -- A history: the keys of the live firings of each transition.
-abbrev pub keysOf : Journal → Keys
-keysOf j t k = (l : LiveLine) × Mem l (j .lines) × (l .transition ≡ t) × (l .key .0 ≡ k)
+abbrev pub historyOf : Journal → Keys
+historyOf j t k = (l : LiveLine) × Mem l (j .lines) × (l .transition ≡ t) × (l .key .0 ≡ k)
 
 -- ≺ after one command, by its answer: Definition 10 on a firing, Definition 12 on a taking back. j is the journal before the
 -- command, j′ the journal after it.
 abbrev pub orderStep : Net → Journal → List ℕ → Journal → Answer → Order → Order
-orderStep net j c j′ (fired k) R = firedOrder (petriNet net) (marksOf net (j .marking)) (keysOf j′) R (transitionNamed c)
-orderStep net j c j′ (undone k) R = reversedOrder (keysOf j) R (lineOf k (j .lines) .transition)
+orderStep net j c j′ (fired k) R = firedOrder (petriNet net) (marksOf net (j .marking)) (historyOf j′) R (transitionNamed c)
+orderStep net j c j′ (undone k) R = reversedOrder (historyOf j) R (lineOf k (j .lines) .transition)
 orderStep net j c j′ (refused n) R = R
 
 -- ≺ after a list of commands

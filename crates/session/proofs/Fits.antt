@@ -19,7 +19,7 @@ use Rattle.net.proofs.Tables.{length-table}
 use Rattle.net.proofs.Journal.{Held}
 use Rattle.net.proofs.Totals.{held-totals}
 use Rattle.net.proofs.Pairs.{few-bonds}
-use Rattle.session.proofs.Forms.{Fits}
+use Rattle.session.proofs.Forms.{FitsRecord}
 
 -- each line of a run has a flag for each base
 pub run-flags : (net : Net) (ls : List LiveLine) (s z : Marking) → Run (Fires net) s ls z → (l : LiveLine) → Mem l ls → length (l .moved) ≡ net .bases
@@ -27,7 +27,7 @@ run-flags net [] s z r l m = absurd m
 run-flags net (k ∷ ls) s z r l (inl e) = ap (λ (x : LiveLine). length (x .moved)) e ∙ ap length (r .1 .moves-m) ∙ length-table (net .bases) (moves (s .bonds) (arcsOf net (k .transition) .entries))
 run-flags net (k ∷ ls) s z r l (inr m) = run-flags net ls (r .0) z (r .2) l m
 
-pub held-fits : (net : Net) → netRule net ≡ true → net .bases ≤ maxBases → (j : Journal) → Held net j → Fits (net .bases) j
+pub held-fits : (net : Net) → netRule net ≡ true → net .bases ≤ maxBases → (j : Journal) → Held net j → FitsRecord (net .bases) j
 held-fits net ok few j H =
     let good = held-totals net ok j H .good in
     let pairs = few-bonds net (j .marking) good in

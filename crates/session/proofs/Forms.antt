@@ -11,7 +11,7 @@ use Rattle.causal.specs.Lists.{Mem}
 use Rattle.net.specs.Limits.{maxBases, maxBonds, maxLive}
 use Rattle.net.specs.Journal.{LiveLine, Journal}
 use Rattle.marking.proofs.Forms.{marking-laid, laid-in-form}
-use Rattle.firings.specs.Lines.{past, lineOf, noFiring, firingOf}
+use Rattle.firings.specs.Lines.{past, asLine, noFiring, firingOf}
 use Rattle.firings.specs.Form.{isNoFiring}
 use Rattle.marking.specs.Form.{clearFrom}
 use Rattle.sound.specs.Soundness.{journalIn, formed}
@@ -22,21 +22,21 @@ use Rattle.firings.proofs.Lists.{all-replicate, all-map, table-back}
 -- ---- a journal
 
 -- What a journal has to be to lie in a record whole.
-pub record Fits (n : ℕ) (j : Journal) : Type 0 where
+pub record FitsRecord (n : ℕ) (j : Journal) : Type 0 where
   pub places : length (j .marking .places) ≡ n
   pub bonds : length (j .marking .bonds) ≤ maxBonds
   pub lines : length (j .lines) ≤ maxLive
   pub flags : (l : LiveLine) → Mem l (j .lines) → length (l .moved) ≡ n
 
-module _ (n : ℕ) (j : Journal) (F : Fits n j) where
-  line-back : (l : LiveLine) → Mem l (j .lines) → lineOf n (firingOf l) ≡ l
+module _ (n : ℕ) (j : Journal) (F : FitsRecord n j) where
+  line-back : (l : LiveLine) → Mem l (j .lines) → asLine n (firingOf l) ≡ l
   line-back l m = λ i. record { transition = l .transition; key = l .key; moved = take-at (l .moved) (replicate (maxBases - length (l .moved)) false) n (F .flags l m) i }
 
   pub journal-back : journalIn n (recordOf j .marking) (recordOf j .live) (recordOf j .firings) ≡ j
   unfolding recordOf
   journal-back = λ i. record {
     marking = marking-laid (j .marking) n (F .places) i;
-    lines = table-back firingOf (lineOf n) past (j .lines) (replicate (maxLive - length (j .lines)) noFiring) line-back i;
+    lines = table-back firingOf (asLine n) past (j .lines) (replicate (maxLive - length (j .lines)) noFiring) line-back i;
   }
 
   flags-unset : (l : LiveLine) → Mem l (j .lines) → clearFrom n (firingOf l .moved) ≡ true

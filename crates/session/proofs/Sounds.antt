@@ -23,7 +23,7 @@ use Rattle.net.proofs.Totals.{held-totals}
 use Rattle.format.specs.Parts.{basesOf}
 use Rattle.format.specs.NetOf.{netOf}
 use Rattle.sheet.proofs.Accepted.{promised}
-use Rattle.firings.specs.Lines.{past, lineOf, linesIn, firingsOf}
+use Rattle.firings.specs.Lines.{past, asLine, linesIn, firingsOf}
 use Rattle.firings.specs.Search.{lastKey}
 use Rattle.firings.specs.declared.Firing.{Firing}
 use Rattle.sound.specs.Soundness.{formed, soundIn}
@@ -50,7 +50,7 @@ module _ (s : List ℕ) (r : Record) (S : Sound s r) where
   placed = record { accepted = S .accepted; form = ap (λ (x : Record). x .marking) (S .form); good = marking-good }
 
   pub live-is : r .live ≡ length (heldIn s r .lines)
-  live-is = sym (length-table (r .live) (λ i. lineOf (basesOf s) (getD (r .firings) i past)))
+  live-is = sym (length-table (r .live) (λ i. asLine (basesOf s) (getD (r .firings) i past)))
 
   pub live-few : r .live ≤ maxLive
   live-few = let e = live-is in let h = held .few in omega arith
@@ -75,4 +75,4 @@ last-given n zero fs u = refl
 last-given n (suc k) fs u =
     let e : suc k - 1 ≡ k = omega arith in
     ap (λ (b : Bool). pick b 0 (getD fs (suc k - 1) past .key .0)) (ne-eqb (suc k) 0 (λ h. omega arith)) ∙ ap (λ (j : ℕ). getD fs j past .key .0) e
-    ∙ sym (last-of (λ i. lineOf n (getD fs i past)) k u)
+    ∙ sym (last-of (λ i. asLine n (getD fs i past)) k u)

@@ -23,11 +23,11 @@ use Rattle.sound.specs.Soundness.{formed, soundIn}
 use Rattle.tally.specs.declared.Tally.{Tally}
 use Rattle.session.specs.Records.{heldIn, recordOf, soundFor}
 use Rattle.session.specs.declared.Record.{Record}
-use Rattle.session.proofs.Forms.{Fits, journal-back, record-form}
+use Rattle.session.proofs.Forms.{FitsRecord, journal-back, record-form}
 use Rattle.session.specs.Commands.{refusal, outcomeOf, acceptOf, performOf, Result, outcomeFor, commandOf, freshOf}
 use Rattle.session.specs.Runs.{answered, Session, runOf}
 use Rattle.session.specs.declared.Outcome.{Outcome}
-use Rattle.session.proofs.Fits.{held-fits}
+use Rattle.session.proofs.FitsRecord.{held-fits}
 
 -- ---- the first check of two lists
 
@@ -61,7 +61,7 @@ module _ (s : List ℕ) (accepted : clear (sheetChecks s) ≡ true) (ok : netRul
   unfolding netOf
   bases-of = refl
 
-  fits : (j : Journal) → Held (netOf s) j → Fits (basesOf s) j
+  fits : (j : Journal) → Held (netOf s) j → FitsRecord (basesOf s) j
   unfolding netOf
   fits j H = held-fits (netOf s) ok few j H
 

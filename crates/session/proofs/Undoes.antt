@@ -25,9 +25,9 @@ use Rattle.format.specs.Parts.{basesOf, transitionsOf}
 use Rattle.format.specs.NetOf.{netOf}
 use Rattle.marking.specs.Form.{markingOf, laid}
 use Rattle.marking.specs.declared.Marking.{Marking}
-use Rattle.firings.specs.Lines.{past, lineOf, firingOf, firingsOf, closedUp}
+use Rattle.firings.specs.Lines.{past, asLine, firingOf, firingsOf, closedUp}
 use Rattle.firings.specs.Form.{liveKeys}
-use Rattle.firings.specs.Search.{placeOf, builtOnIn}
+use Rattle.firings.specs.Search.{indexOf, builtOnIn}
 use Rattle.firings.specs.declared.Firing.{Firing}
 use Rattle.firings.proofs.Laid.{getD-front}
 use Rattle.firings.proofs.Changes.{without-line}
@@ -38,7 +38,7 @@ use Rattle.session.specs.Commands.{refusal, outcomeOf, undoOutcome}
 use Rattle.session.specs.declared.Record.{Record}
 use Rattle.session.specs.declared.Answer.the-variants.{Undone}
 use Rattle.session.proofs.Sounds.{held, live-is, firings-are}
-use Rattle.session.proofs.Places.{keysOf, place-most, place-dead, Found, place-found, built-lines}
+use Rattle.session.proofs.Places.{lineKeys, place-most, place-dead, Found, place-found, built-lines}
 use Rattle.session.proofs.Fits.{run-flags}
 
 -- each line of a run is of a transition on the sheet
@@ -58,15 +58,15 @@ module _ (s : List ℕ) (r : Record) (k : Key) (S : Sound s r) where
   unfolding undoOutcome
   by-first a n e f = λ i. pick (e i) (outcomeOf (undoReply (netOf s) j k)) (refusal r (f i))
 
-  module _ (i : ℕ) (ei : i ≡ placeOf (k .0) (liveKeys (r .live) (r .firings))) where
-    place-is : i ≡ placeOf (k .0) (keysOf ls)
-    place-is = ei ∙ ap (placeOf (k .0)) (sym (map-table (λ (l : LiveLine). l .key .0) (r .live) (λ x. lineOf (basesOf s) (getD (r .firings) x past))))
+  module _ (i : ℕ) (ei : i ≡ indexOf (k .0) (liveKeys (r .live) (r .firings))) where
+    place-is : i ≡ indexOf (k .0) (lineKeys ls)
+    place-is = ei ∙ ap (indexOf (k .0)) (sym (map-table (λ (l : LiveLine). l .key .0) (r .live) (λ x. asLine (basesOf s) (getD (r .firings) x past))))
 
     pub dead : r .live ≤ i → refusal r 19 ≡ undoOutcome s r k
     dead h =
         let a = live-is s r S in
         let b = place-most k ls in
-        let e : placeOf (k .0) (keysOf ls) ≡ length ls = (let c = place-is in omega arith) in
+        let e : indexOf (k .0) (lineKeys ls) ≡ length ls = (let c = place-is in omega arith) in
         sym (by-first false 19 (rw (place-dead k ls e)) (rw (place-dead k ls e)))
 
     module _ (h : i < r .live) where
@@ -74,7 +74,7 @@ module _ (s : List ℕ) (r : Record) (k : Key) (S : Sound s r) where
       found = rw place-is (place-found k ls (let a = live-is s r S in let c = place-is in omega arith))
 
       abbrev l : LiveLine
-      l = J.lineOf k ls
+      l = J.asLine k ls
 
       mem-l : Mem l ls
       mem-l = subst (λ (x : List LiveLine). Mem l x) (sym (found .split)) (mem-mid l (found .before) (found .after))

@@ -6,8 +6,8 @@ ghost use Rattle.session.specs.Commands.{decodedOf, countOf, refusal, fi
 use firings::Firing;
 use firings::built_on;
 use firings::closed_up;
+use firings::index_of;
 use firings::last_key;
-use firings::place_of;
 use format::byte_at;
 use format::word_at;
 use marking::Marking;
@@ -162,7 +162,7 @@ impl Record {
         let m = self.marking;
         let live = self.live;
         let firings = self.firings;
-        let i = place_of(firings, live, key);
+        let i = index_of(firings, live, key);
         if live <= i {
             return self.refused(19);
         }

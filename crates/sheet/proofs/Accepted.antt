@@ -21,10 +21,10 @@ use Rattle.net.specs.declared.Bond.{Bond}
 use Rattle.net.proofs.Tests.{and-l, and-r, or-no-l, or-no-r, all-e, all-at, all-append}
 use Rattle.format.specs.Bytes.{outside, headerWidth, bondWidth}
 use Rattle.format.specs.Parts.{placesOf, basesOf, transitionsOf, startPlaces, startBonds, transitionBytes}
-use Rattle.format.specs.NetOf.{startOf, netOf}
-use Rattle.sheet_start.specs.Conditions.{wrongSize, wrongCounts, wrongStartPlaces, wrongStartBonds}
+use Rattle.format.specs.NetOf.{startMarking, netOf}
+use Rattle.sheet_head.specs.Conditions.{wrongSize, wrongCounts, wrongStartPlaces, wrongStartBonds}
 use Rattle.sheet.specs.Checks.{headChecks, transitionChecks, checksFrom, sheetChecks, checked}
-use Rattle.sheet.specs.Promises.{Fits, arcsAt, GoodArcs, Promised}
+use Rattle.sheet.specs.Promises.{BondWithin, arcsAt, GoodArcs, Promised}
 use Rattle.sheet.specs.declared.SheetAnswer.the-variants.{Accepted, Refused}
 use Rattle.sheet.proofs.Arcs.{within, all-table, arcs-rule, good-arcs}
 
@@ -76,18 +76,18 @@ module _ (s : List ℕ) (h : clear (sheetChecks s) ≡ true) where
   start-size : length (startPlaces s) ≡ basesOf s
   start-size = eqb-true (length (startPlaces s)) (basesOf s) (and-l (eqb (length (startPlaces s)) (basesOf s)) _ start-places)
 
-  start-place : (p : ℕ) → p < basesOf s → place (startOf s) p < placesOf s
+  start-place : (p : ℕ) → p < basesOf s → place (startMarking s) p < placesOf s
   start-place p i =
       let j : p < length (startPlaces s) = rw start-size i in
-      ltb-true (place (startOf s) p) (placesOf s) (all-at _ (startPlaces s) 0 p (and-r (eqb (length (startPlaces s)) (basesOf s)) _ start-places) j)
+      ltb-true (place (startMarking s) p) (placesOf s) (all-at _ (startPlaces s) 0 p (and-r (eqb (length (startPlaces s)) (basesOf s)) _ start-places) j)
 
-  start-bonds : startBondsRule (basesOf s) (startOf s) ≡ true
+  start-bonds : startBondsRule (basesOf s) (startMarking s) ≡ true
   unfolding wrongStartBonds
   start-bonds = not-false _ (or-no-r (not (eqb (length (startBonds s) % bondWidth) 0)) _ (head-at 5 (omega arith)))
 
-  start-bond : (b : Bond) → Mem b (startOf s .bonds) → Fits (basesOf s) b
+  start-bond : (b : Bond) → Mem b (startMarking s .bonds) → BondWithin (basesOf s) b
   start-bond b m =
-      let r : startBondRule (basesOf s) (startOf s) b ≡ true = all-e _ (startOf s .bonds) (and-r (ascends lessBond (startOf s .bonds)) _ start-bonds) b m in (
+      let r : startBondRule (basesOf s) (startMarking s) b ≡ true = all-e _ (startMarking s .bonds) (and-r (ascends lessBond (startMarking s .bonds)) _ start-bonds) b m in (
         ltb-true (b .lo) (b .hi) (and-l (ltb (b .lo) (b .hi)) _ r),
         ltb-true (b .hi) (basesOf s) (and-l (ltb (b .hi) (basesOf s)) _ (and-r (ltb (b .lo) (b .hi)) _ r)),
       )
@@ -128,7 +128,7 @@ module _ (s : List ℕ) (h : clear (sheetChecks s) ≡ true) where
     transitions = within (transitionsOf s) maxTransitions (or-no-r (outside (basesOf s) maxBases) _ rest);
     startSize = start-size;
     startPlace = start-place;
-    startOrder = and-l (ascends lessBond (startOf s .bonds)) _ start-bonds;
+    startOrder = and-l (ascends lessBond (startMarking s .bonds)) _ start-bonds;
     startBond = start-bond;
     arcs = arcs-good;
   }

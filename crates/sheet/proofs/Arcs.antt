@@ -22,7 +22,7 @@ use Rattle.format.specs.Bytes.{outside}
 use Rattle.format.specs.Arcs.{entryCount, arcsWidth, arcsIn}
 use Rattle.sheet_arcs.specs.Conditions.{wrongWidth, wrongEntries}
 use Rattle.sheet_bonds.specs.Conditions.{wrongBonds}
-use Rattle.sheet.specs.Promises.{Within, Fits, GoodArcs}
+use Rattle.sheet.specs.Promises.{Within, BondWithin, GoodArcs}
 
 -- ---- tests
 
@@ -45,7 +45,7 @@ module _ {X : Type 0} where
       and-i (t (f zero)) (all t (table n (λ k. f (suc k)))) (h zero (omega arith)) (all-table t n (λ k. f (suc k)) (λ k i. h (suc k) (omega arith)))
 
 -- a bond that joins entries is of bases that are there
-fits : (side : Entry → ℕ) (es : List Entry) (bases : ℕ) → ((e : Entry) → Mem e es → e .base < bases) → (b : Bond) → joins side es b ≡ true → Fits bases b
+fits : (side : Entry → ℕ) (es : List Entry) (bases : ℕ) → ((e : Entry) → Mem e es → e .base < bases) → (b : Bond) → joins side es b ≡ true → BondWithin bases b
 fits side es bases f b h =
     let (e, m, p) = any-e _ es (and-r (ltb (b .lo) (b .hi)) _ h) in
     let (d, n, q) = any-e _ es (and-r (eqb (e .base) (b .lo)) _ p) in

@@ -6,7 +6,7 @@ use Rattle.net.specs.Tests.{pick}
 use Rattle.net.specs.Checks.{Check, check, clear, first}
 use Rattle.net.specs.Journal.{transition}
 use Rattle.format.specs.Parts.{placesOf, basesOf, transitionsOf, transitionBytes}
-use Rattle.sheet_start.specs.Conditions.{wrongSize, wrongVersion, wrongCounts, wrongPairs, wrongStartPlaces, wrongStartBonds}
+use Rattle.sheet_head.specs.Conditions.{wrongSize, wrongVersion, wrongCounts, wrongPairs, wrongStartPlaces, wrongStartBonds}
 use Rattle.sheet_arcs.specs.Conditions.{wrongWidth, wrongEntries}
 use Rattle.sheet_bonds.specs.Conditions.{wrongBonds}
 use Rattle.sheet.specs.declared.SheetAnswer.{SheetAnswer}

@@ -15,15 +15,15 @@ use Rattle.net.specs.declared.Bond.{Bond}
 use Rattle.net.specs.declared.Entry.{Entry}
 use Rattle.format.specs.Parts.{placesOf, basesOf, transitionsOf, transitionBytes}
 use Rattle.format.specs.Arcs.{arcsIn}
-use Rattle.format.specs.NetOf.{startOf, netOf}
+use Rattle.format.specs.NetOf.{startMarking, netOf}
 
 -- a count that is 1 to max
 abbrev pub Within : ℕ → ℕ → Type 0
 Within n max = (0 < n) × (n ≤ max)
 
 -- a bond of bases p < q that are there
-abbrev pub Fits : ℕ → Bond → Type 0
-Fits bases b = (b .lo < b .hi) × (b .hi < bases)
+abbrev pub BondWithin : ℕ → Bond → Type 0
+BondWithin bases b = (b .lo < b .hi) × (b .hi < bases)
 
 -- the arcs of transition k
 abbrev pub arcsAt : List ℕ → ℕ → Arcs
@@ -33,8 +33,8 @@ arcsAt s k = arcsIn (transitionBytes s (transition k))
 pub record GoodArcs (places bases : ℕ) (t : Arcs) : Type 0 where
   pub count : Within (length (t .entries)) maxEntries
   pub entry : (e : Entry) → Mem e (t .entries) → (e .base < bases) × (e .from < places) × (e .to < places)
-  pub inBond : (b : Bond) → Mem b (t .inBonds) → Fits bases b
-  pub outBond : (b : Bond) → Mem b (t .outBonds) → Fits bases b
+  pub inBond : (b : Bond) → Mem b (t .inBonds) → BondWithin bases b
+  pub outBond : (b : Bond) → Mem b (t .outBonds) → BondWithin bases b
 
 pub record Promised (s : List ℕ) : Type 0 where
   -- the rules of the net that the sheet describes, all of them
@@ -45,9 +45,9 @@ pub record Promised (s : List ℕ) : Type 0 where
   pub bases : Within (basesOf s) maxBases
   pub transitions : Within (transitionsOf s) maxTransitions
   -- the start
-  pub startSize : length (startOf s .places) ≡ basesOf s
-  pub startPlace : (p : ℕ) → p < basesOf s → place (startOf s) p < placesOf s
-  pub startOrder : ascends lessBond (startOf s .bonds) ≡ true
-  pub startBond : (b : Bond) → Mem b (startOf s .bonds) → Fits (basesOf s) b
+  pub startSize : length (startMarking s .places) ≡ basesOf s
+  pub startPlace : (p : ℕ) → p < basesOf s → place (startMarking s) p < placesOf s
+  pub startOrder : ascends lessBond (startMarking s .bonds) ≡ true
+  pub startBond : (b : Bond) → Mem b (startMarking s .bonds) → BondWithin (basesOf s) b
   -- each transition
   pub arcs : (k : ℕ) → k < transitionsOf s → GoodArcs (placesOf s) (basesOf s) (arcsAt s k)

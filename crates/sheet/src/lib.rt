@@ -14,12 +14,12 @@ use net::Transition;
 use sheet_arcs::wrong_entries;
 use sheet_arcs::wrong_width;
 use sheet_bonds::wrong_bonds;
-use sheet_start::wrong_counts;
-use sheet_start::wrong_pairs;
-use sheet_start::wrong_size;
-use sheet_start::wrong_start_bonds;
-use sheet_start::wrong_start_places;
-use sheet_start::wrong_version;
+use sheet_head::wrong_counts;
+use sheet_head::wrong_pairs;
+use sheet_head::wrong_size;
+use sheet_head::wrong_start_bonds;
+use sheet_head::wrong_start_places;
+use sheet_head::wrong_version;
 
 // The answer to a sheet; Refused has the number of document 01's list.
 pub enum SheetAnswer {

@@ -3,9 +3,9 @@
 // It is measured by bench/run; what stdout has was printed by the plain Rust program there.
 ghost use Prim.Native.Nat.{_≤_};
 use format::word_at;
-use opening::start;
 use runs::command_at;
 use session::command_with;
+use session_start::start;
 use tally::Tally;
 
 fn print_word(x: u16) {

@@ -15,7 +15,7 @@ use Rattle.net.specs.Journal.{LiveLine}
 use Rattle.net.specs.History.{keysInOrder}
 use Rattle.net.proofs.Tests.{same-test, and-l, and-r, and-i}
 use Rattle.bonds.proofs.Fill.{map-table}
-use Rattle.firings.specs.Lines.{past, lineOf, linesIn}
+use Rattle.firings.specs.Lines.{past, asLine, linesIn}
 use Rattle.firings.specs.Form.{liveKeys, climbs}
 use Rattle.firings.specs.declared.Firing.{Firing}
 
@@ -58,5 +58,5 @@ order-climbs (l ∷ ls) h =
 pub keys-order : (n k : ℕ) (fs : List Firing) → climbs 0 (liveKeys k fs) ≡ keysInOrder (linesIn n k fs)
 keys-order n k fs =
     let ls : List LiveLine = linesIn n k fs in
-    let same : liveKeys k fs ≡ keys ls = sym (map-table (λ (l : LiveLine). l .key .0) k (λ i. lineOf n (getD fs i past))) in
+    let same : liveKeys k fs ≡ keys ls = sym (map-table (λ (l : LiveLine). l .key .0) k (λ i. asLine n (getD fs i past))) in
     ap (climbs 0) same ∙ same-test (climbs 0 (keys ls)) (keysInOrder ls) (λ h. and-i (ascends keyBelow ls) (all inRange ls) (climbs-ascends 0 ls h) (climbs-range 0 ls h)) (order-climbs ls)

@@ -31,7 +31,7 @@ use Rattle.sheet.proofs.Order.{clear-first}
 use Rattle.marking.specs.Form.{bondsOf, markingOf, laid, flags}
 use Rattle.marking.specs.declared.Marking.{Marking}
 use Rattle.marking.proofs.Forms.{marking-laid}
-use Rattle.firings.specs.Lines.{lineOf, linesIn, past}
+use Rattle.firings.specs.Lines.{asLine, linesIn, past}
 use Rattle.firings.specs.declared.Firing.{Firing}
 use Rattle.steps.specs.Placed.{Placed}
 use Rattle.steps.proofs.Arcs.{arcs-of, count-of}
@@ -79,7 +79,7 @@ take-flags n l e = take-at l _ n e
 
 module _ (s : List ℕ) (m : Marking) (f : Firing) where
   abbrev line : LiveLine
-  line = lineOf (basesOf s) f
+  line = asLine (basesOf s) f
 
   abbrev seen : Net.Marking
   seen = markingOf (basesOf s) m
@@ -106,28 +106,28 @@ module _ (s : List ℕ) (fs : List Firing) (live : ℕ) (z : Net.Marking) where
   abbrev lines : List LiveLine
   lines = linesIn (basesOf s) live fs
 
-  lines-cons : (i : ℕ) → i < live → drop i lines ≡ lineOf (basesOf s) (getD fs i past) ∷ drop (suc i) lines
+  lines-cons : (i : ℕ) → i < live → drop i lines ≡ asLine (basesOf s) (getD fs i past) ∷ drop (suc i) lines
   lines-cons i h =
       let size : i < length lines = rw length-table h in
-      drop-cons lines i (lineOf (basesOf s) past) size ∙ ap (λ (l : LiveLine). l ∷ drop (suc i) lines) (getD-table live (λ j. lineOf (basesOf s) (getD fs j past)) i (lineOf (basesOf s) past) h)
+      drop-cons lines i (asLine (basesOf s) past) size ∙ ap (λ (l : LiveLine). l ∷ drop (suc i) lines) (getD-table live (λ j. asLine (basesOf s) (getD fs j past)) i (asLine (basesOf s) past) h)
 
   -- the run of the rest, by its first line
   run-step : (w : Bool) (m : Marking) (i : ℕ) → i < live → w ≡ replays (netOf s) (markingOf (basesOf s) m) (drop i lines) z
-      → w ≡ (accepts (netOf s) (markingOf (basesOf s) m) (lineOf (basesOf s) (getD fs i past))
-      && replays (netOf s) (fire (netOf s .bases) (arcsOf (netOf s) (lineOf (basesOf s) (getD fs i past) .transition)) (markingOf (basesOf s) m)) (drop (suc i) lines) z)
+      → w ≡ (accepts (netOf s) (markingOf (basesOf s) m) (asLine (basesOf s) (getD fs i past))
+      && replays (netOf s) (fire (netOf s .bases) (arcsOf (netOf s) (asLine (basesOf s) (getD fs i past) .transition)) (markingOf (basesOf s) m)) (drop (suc i) lines) z)
   run-step w m i h e = e ∙ ap (λ (ls : List LiveLine). replays (netOf s) (markingOf (basesOf s) m) ls z) (lines-cons i h)
 
   pub run-stops : (w : Bool) (m : Marking) (i : ℕ) → i < live → w ≡ replays (netOf s) (markingOf (basesOf s) m) (drop i lines) z
-      → accepts (netOf s) (markingOf (basesOf s) m) (lineOf (basesOf s) (getD fs i past)) ≡ false → false ≡ w
-  run-stops w m i h e a = sym (run-step w m i h e ∙ ap (λ (b : Bool). b && replays (netOf s) (fire (netOf s .bases) (arcsOf (netOf s) (lineOf (basesOf s) (getD fs i past) .transition)) (markingOf (basesOf s) m)) (drop (suc i) lines) z) a)
+      → accepts (netOf s) (markingOf (basesOf s) m) (asLine (basesOf s) (getD fs i past)) ≡ false → false ≡ w
+  run-stops w m i h e a = sym (run-step w m i h e ∙ ap (λ (b : Bool). b && replays (netOf s) (fire (netOf s .bases) (arcsOf (netOf s) (asLine (basesOf s) (getD fs i past) .transition)) (markingOf (basesOf s) m)) (drop (suc i) lines) z) a)
 
   pub run-goes : (w : Bool) (m m′ : Marking) (i : ℕ) → i < live → Placed s m → w ≡ replays (netOf s) (markingOf (basesOf s) m) (drop i lines) z
-      → accepts (netOf s) (markingOf (basesOf s) m) (lineOf (basesOf s) (getD fs i past)) ≡ true
-      → m′ ≡ laid (fire (basesOf s) (arcsOf (netOf s) (lineOf (basesOf s) (getD fs i past) .transition)) (markingOf (basesOf s) m))
+      → accepts (netOf s) (markingOf (basesOf s) m) (asLine (basesOf s) (getD fs i past)) ≡ true
+      → m′ ≡ laid (fire (basesOf s) (arcsOf (netOf s) (asLine (basesOf s) (getD fs i past) .transition)) (markingOf (basesOf s) m))
       → Placed s m′ × (w ≡ replays (netOf s) (markingOf (basesOf s) m′) (drop (i + 1) lines) z)
   unfolding netOf
   run-goes w m m′ i h P e a q =
-      let t = lineOf (basesOf s) (getD fs i past) .transition in
+      let t = asLine (basesOf s) (getD fs i past) .transition in
       let y : Net.Marking = fire (basesOf s) (arcsOf (netOf s) t) (markingOf (basesOf s) m) in
       let P′ : Placed s (laid y) = placed-fired s m t P (and-l (clear (enableChecks (netOf s) (markingOf (basesOf s) m) t)) _ a) in
       let back : markingOf (basesOf s) m′ ≡ y = ap (markingOf (basesOf s)) q ∙ marking-laid y (basesOf s) (length-table (basesOf s) _) in (

@@ -17,7 +17,7 @@ use Rattle.net.proofs.Tables.{length-table}
 use Rattle.net.proofs.Rules.{start-good}
 use Rattle.causal.proofs.Tests.{both}
 use Rattle.format.specs.Parts.{basesOf}
-use Rattle.format.specs.NetOf.{startBondCount, nthStartBond, startOf, netOf}
+use Rattle.format.specs.NetOf.{startBondCount, nthStartBond, startMarking, netOf}
 use Rattle.sheet.specs.Checks.{sheetChecks}
 use Rattle.sheet.proofs.Accepted.{promised}
 use Rattle.marking.specs.Form.{markingOf, laid, inForm}
@@ -27,7 +27,7 @@ use Rattle.firings.specs.Lines.{linesIn}
 use Rattle.firings.specs.Form.{usedInForm, unusedInForm, liveKeys, climbs}
 use Rattle.firings.specs.declared.Firing.{Firing}
 use Rattle.marking.proofs.Room.{bonds-fit}
-use Rattle.start.specs.Start.{StartFits}
+use Rattle.fresh_marking.specs.Start.{StartFits}
 use Rattle.steps.specs.Placed.{Placed}
 use Rattle.sound.specs.Soundness.{soundIn}
 use Rattle.sound.proofs.Lines.{placed-laid}
@@ -36,26 +36,26 @@ use Rattle.sound.proofs.Keys.{keys-order}
 -- ---- the start of an accepted sheet
 
 module _ (s : List ℕ) (a : clear (sheetChecks s) ≡ true) where
-  start-of-good : Good (netOf s) (startOf s)
+  start-of-good : Good (netOf s) (startMarking s)
   unfolding netOf
   start-of-good = start-good (netOf s) (promised s a .rule)
 
-  pub start-placed : Placed s (laid (startOf s))
-  start-placed = placed-laid s (startOf s) a start-of-good
+  pub start-placed : Placed s (laid (startMarking s))
+  start-placed = placed-laid s (startMarking s) a start-of-good
 
   pub start-fits : StartFits s
   unfolding netOf
   start-fits =
       let few = promised s a .bases .1 in
-      let size : length (startOf s .places) ≡ basesOf s = promised s a .startSize in
-      let count : length (startOf s .bonds) ≡ startBondCount s = length-table (startBondCount s) (nthStartBond s) in
-      let most : 2 * length (startOf s .bonds) ≤ maxBases * (maxBases - 1) = bonds-fit (basesOf s) maxBases few (startOf s .bonds) (start-of-good .order) (start-of-good .range) in
+      let size : length (startMarking s .places) ≡ basesOf s = promised s a .startSize in
+      let count : length (startMarking s .bonds) ≡ startBondCount s = length-table (startBondCount s) (nthStartBond s) in
+      let most : 2 * length (startMarking s .bonds) ≤ maxBases * (maxBases - 1) = bonds-fit (basesOf s) maxBases few (startMarking s .bonds) (start-of-good .order) (start-of-good .range) in
       record { places = omega arith; bonds = omega arith }
 
   -- the run from the start that was read
-  pub from-start : (ls : List _) (z : Net.Marking) → replays (netOf s) (markingOf (basesOf s) (laid (startOf s))) ls z ≡ replays (netOf s) (netOf s .start) ls z
+  pub from-start : (ls : List _) (z : Net.Marking) → replays (netOf s) (markingOf (basesOf s) (laid (startMarking s))) ls z ≡ replays (netOf s) (netOf s .start) ls z
   unfolding netOf
-  from-start ls z = ap (λ (y : Net.Marking). replays (netOf s) y ls z) (marking-laid (startOf s) (basesOf s) (start-of-good .size))
+  from-start ls z = ap (λ (y : Net.Marking). replays (netOf s) y ls z) (marking-laid (startMarking s) (basesOf s) (start-of-good .size))
 
 -- ---- the tests together
 

@@ -10,7 +10,7 @@ ghost use Rattle.format.specs.Parts.{basesOf};
 ghost use Rattle.format.specs.NetOf.{netOf};
 ghost use Rattle.sheet.specs.Checks.{sheetChecks};
 ghost use Rattle.marking.specs.Form.{markingOf};
-ghost use Rattle.firings.specs.Lines.{lineOf, linesIn};
+ghost use Rattle.firings.specs.Lines.{asLine, linesIn};
 ghost use Rattle.steps.specs.Placed.{Placed};
 ghost use Rattle.sound.specs.Soundness.{soundIn, LaidOut};
 use firings::Firing;
@@ -18,13 +18,13 @@ use firings::keys_climb;
 use firings::same_flags;
 use firings::unused_in_form;
 use firings::used_in_form;
-use form::in_form;
-use form::same_marking;
 use format::base_count;
+use fresh_marking::start_marking;
 use marking::Marking;
+use marking_form::in_form;
+use marking_form::same_marking;
 use net::MAX_LIVE;
 use net::Transition;
-use start::start_marking;
 use steps::enable_refusal;
 use steps::fired;
 use steps::moved_by;
@@ -33,7 +33,7 @@ use steps::moved_by;
 // Callers have an accepted sheet and hold a good marking of it.
 pub fn line_accepted(sheet: &[u8], m: Marking, f: Firing) -> bool
     requires { ⌜ Placed (now sheet) m ⌝ }
-    ensures { λ r. ⌜ r ≡ accepts (netOf (now (sheet .entry))) (markingOf (basesOf (now (sheet .entry))) m) (lineOf (basesOf (now (sheet .entry))) f) ⌝ }
+    ensures { λ r. ⌜ r ≡ accepts (netOf (now (sheet .entry))) (markingOf (basesOf (now (sheet .entry))) m) (asLine (basesOf (now (sheet .entry))) f) ⌝ }
 {
     let n = base_count(sheet) as usize;
     let t = Transition(f.transition as u16);

@@ -9,7 +9,7 @@ use Rattle.net.proofs.Tests.{and-l}
 use Rattle.format.specs.Parts.{basesOf}
 use Rattle.format.specs.NetOf.{netOf}
 use Rattle.marking.specs.Form.{markingOf}
-use Rattle.firings.specs.Lines.{lineOf, linesIn, past}
+use Rattle.firings.specs.Lines.{asLine, linesIn, past}
 use Rattle.steps.specs.Placed.{Placed}
 use Rattle.steps.proofs.Readiness.{few-bases}
 use Rattle.sound.proofs.Lines.{enabled-listed, placed-room, run-stops, run-goes, run-ends}
@@ -33,7 +33,7 @@ abbrev μ-loop : tie.MeasureT-loop
 -- a line that was accepted
 accepted : (c : tie.Else1 Inv-loop μ-loop) → accepts (netOf (c .before .before .before .before .before .before .args .sheet .now))
     (markingOf (basesOf (c .before .before .before .before .before .before .args .sheet .now)) (c .before .before .before .before .loop .now-at))
-    (lineOf (basesOf (c .before .before .before .before .before .before .args .sheet .now)) (getD (c .before .before .before .before .before .before .args .t3) (c .before .before .before .before .loop .i) past)) ≡ true
+    (asLine (basesOf (c .before .before .before .before .before .before .args .sheet .now)) (getD (c .before .before .before .before .before .before .args .t3) (c .before .before .before .before .loop .i) past)) ≡ true
 accepted c = sym (c .before .line-accepted .ensures) ∙ not-false _ (c .if1 .left)
 
 loop-holds : tie.Need-loop-holds Inv-loop μ-loop

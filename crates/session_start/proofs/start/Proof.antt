@@ -1,0 +1,43 @@
+-- `session_start::start` meets its contract.
+-- Assumes nothing but the laws of proofs/.
+use mathlib.Core.Path.{_∙_}
+use Prim.Native.Nat.{_-_}
+use Rattle.sound.proofs.Tests.{start-fits}
+use Rattle.session.proofs.Answering.{sheet-clear}
+use Rattle.session_start.proofs.Starting.{refused, started}
+use borrow.Author.Needs.{needs}
+use Rattle.session_start.proofs.start.Statement.{statement}
+use Rattle.session_start.proofs.start.Tie as tie
+
+check-sheet-requires : tie.Need-check-sheet-requires
+check-sheet-requires c κs = search needs
+
+sheet-number-requires : tie.Need-sheet-number-requires
+sheet-number-requires c κs = search needs
+
+zero-record-requires : tie.Need-zero-record-requires
+zero-record-requires c κs = search needs
+
+returns : tie.Need-returns
+returns c = refused (c .before .before .before .before .before .args .sheet .now) _ (c .before .before .sheet-number .ensures ∙ c .before .before .before .check-sheet .ensures .1) _ (c .before .if1 .taken) (c .zero-record .ensures)
+
+start-marking-requires : tie.Need-start-marking-requires
+start-marking-requires c κs = start-fits (c .before .before .before .before .args .sheet .now) (sheet-clear (c .before .before .before .before .args .sheet .now) _ (c .before .sheet-number .ensures ∙ c .before .before .check-sheet .ensures .1) (c .if1 .left))
+
+no-firing-requires : tie.Need-no-firing-requires
+no-firing-requires c κs = search needs
+
+returns-2 : tie.Need-returns-2
+returns-2 c = started (c .before .before .before .before .before .before .args .sheet .now) _ (c .before .before .before .sheet-number .ensures ∙ c .before .before .before .before .check-sheet .ensures .1) _ _ (c .before .before .if1 .left) (c .before .start-marking .ensures) (c .no-firing .ensures)
+
+pub start-spec : {M : Type 1} → statement M
+start-spec =
+    tie.close
+    (tie.spec
+    check-sheet-requires
+    sheet-number-requires
+    zero-record-requires
+    returns
+    start-marking-requires
+    no-firing-requires
+    returns-2)

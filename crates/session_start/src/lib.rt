@@ -1,0 +1,55 @@
+// Starting a session on a sheet (document 01, the session book; the turned-away list): the fresh record, or a record of
+// zeros with the sheet's refusal. Any bytes may be handed in.
+ghost use mathlib.Core.Path.{_≡_};
+ghost use Rattle.session.specs.Commands.{zeroRecord, startOf};
+use firings::no_firing;
+use fresh_marking::start_marking;
+use marking::Marking;
+use net::MAX_BASES;
+use net::MAX_BONDS;
+use net::MAX_LIVE;
+use session::Record;
+use session::Start;
+use session::StartAnswer;
+use sheet::check_sheet;
+use sheet::sheet_number;
+
+// A record of zeros.
+pub fn zero_record() -> Record
+    ensures { λ r. ⌜ r ≡ zeroRecord ⌝ }
+{
+    let m = Marking {
+        places: [0u8; MAX_BASES],
+        count: 0,
+        lo: [0u8; MAX_BONDS],
+        hi: [0u8; MAX_BONDS],
+    };
+    Record {
+        marking: m,
+        live: 0,
+        firings: [no_firing(); MAX_LIVE],
+    }
+}
+
+// The fresh record of an accepted sheet; of any other its refusal, and a record of zeros.
+pub fn start(sheet: &[u8]) -> Start
+    ensures { λ r. ⌜ r ≡ startOf (now (sheet .entry)) ⌝ }
+{
+    let checked = check_sheet(sheet);
+    let refusal = sheet_number(checked);
+    if refusal != 0 {
+        return Start {
+            answer: StartAnswer::NotStarted(refusal),
+            session: zero_record(),
+        };
+    }
+    let m = start_marking(sheet);
+    Start {
+        answer: StartAnswer::Started,
+        session: Record {
+            marking: m,
+            live: 0,
+            firings: [no_firing(); MAX_LIVE],
+        },
+    }
+}
