@@ -33,23 +33,23 @@ number-bytes : (n : ℕ) → n % 256 + 256 * (n / 256) ≡ n
 number-bytes n = omega arith
 
 module _ (net : Net) (j : Journal) where
-  fires-number : (n : ℕ) → act net j (fireCommand n) ≡ pick (clear (fireChecks net j (transition n))) (fireReply net j (transition n)) (refuse j (first (fireChecks net j (transition n))))
+  fires-number : (n : ℕ) → act net j (fireCommand (transition n)) ≡ pick (clear (fireChecks net j (transition n))) (fireReply net j (transition n)) (refuse j (first (fireChecks net j (transition n))))
   fires-number n = ap
       (λ (k : ℕ). pick (clear (fireChecks net j (transition k))) (fireReply net j (transition k)) (refuse j (first (fireChecks net j (transition k)))))
       (number-bytes n)
 
   -- where none of 12 to 18 holds, the firing is done
-  pub act-fires : (t : Transition) → clear (fireChecks net j t) ≡ true → act net j (fireCommand (t .0)) ≡ fireReply net j t
+  pub act-fires : (t : Transition) → clear (fireChecks net j t) ≡ true → act net j (fireCommand t) ≡ fireReply net j t
   act-fires t e = fires-number (t .0) ∙ ap (λ (b : Bool). pick b (fireReply net j t) (refuse j (first (fireChecks net j t)))) e
 
 module _ (net : Net) where
-  fires-clear : (j : Journal) (t : Transition) (m : List Bool) (z : Marking) → Fires net (j .marking) t m z → length (j .lines) < maxLive → lastGiven j < maxKey
+  fires-clear : (j : Journal) (t : Transition) (m : List Bool) (z : Marking) → Fires net (j .marking) t m z → length (j .lines) < maxLive → lastGiven j .0 < maxKey
       → clear (fireChecks net j t) ≡ true
   fires-clear j t m z F few low =
-      rw (lt-leb (length (net .transitions)) (t .0) (F .listed), F .placed, F .present, F .absent, F .together, lt-leb maxLive (length (j .lines)) few, lt-leb maxKey (lastGiven j) low)
+      rw (lt-leb (length (net .transitions)) (t .0) (F .listed), F .placed, F .present, F .absent, F .together, lt-leb maxLive (length (j .lines)) few, lt-leb maxKey (lastGiven j .0) low)
 
   -- a run of lines, given as commands after those of acc
-  run-all : (ls acc : List LiveLine) (s z : Marking) (k : ℕ) → Run (Fires net) s ls z → highestLive acc ≡ k
+  run-all : (ls acc : List LiveLine) (s z : Marking) (k : ℕ) → Run (Fires net) s ls z → highestLive acc .0 ≡ k
       → length acc + length ls ≤ maxLive → k + length ls ≤ maxKey
       → (play net (fireCommands ls) (record { marking = s; lines = acc }) ≡ record { marking = z; lines = acc ++ numbered k ls })
       × (answers net (fireCommands ls) (record { marking = s; lines = acc }) ≡ allFired k ls)
@@ -63,7 +63,7 @@ module _ (net : Net) where
         journal = record { marking = sym (F .gives) i; lines = acc ++ (record { transition = l .transition; key = key (suc (e i)); moved = sym (F .moves-m) i } ∷ []) };
         answer = fired (key (suc (e i)));
       } in
-      let reply : act net j (fireCommand (l .transition .0)) ≡ meant =
+      let reply : act net j (fireCommand (l .transition)) ≡ meant =
       act-fires net j (l .transition) (fires-clear j (l .transition) (l .moved) (r .0) F (omega arith) (omega arith)) ∙ so in
       let (journal, ans) = run-all ls (acc ++ (new ∷ [])) (r .0) z (suc k) (r .2) (highest-snoc acc new (omega arith)) (rw length-append (omega arith)) (omega arith) in (
         ap (λ (x : Reply). play net (fireCommands ls) (x .journal)) reply ∙ journal ∙ (λ i. record { marking = z; lines = append-assoc acc (new ∷ []) (numbered (suc k) ls) i }),

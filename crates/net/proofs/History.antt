@@ -99,7 +99,7 @@ up-ascends (l ∷ []) u = refl
 up-ascends (l ∷ j ∷ ls) u = and-i (keyBelow l j) (ascends keyBelow (j ∷ ls)) (lt-ltb (l .key .0) (j .key .0) (u .0 j (inl refl))) (up-ascends (j ∷ ls) (u .1))
 
 -- the highest of keys that are all within a bound
-highest-within : (ls : List LiveLine) (n : ℕ) → ((l : LiveLine) → Mem l ls → l .key .0 ≤ n) → highestLive ls ≤ n
+highest-within : (ls : List LiveLine) (n : ℕ) → ((l : LiveLine) → Mem l ls → l .key .0 ≤ n) → highestLive ls .0 ≤ n
 highest-within [] n h = omega arith
 highest-within (l ∷ ls) n h = let a = h l (inl refl) in let b = highest-within ls n (λ j m. h j (inr m)) in omega arith
 

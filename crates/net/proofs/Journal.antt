@@ -57,7 +57,7 @@ pub record Held (net : Net) (j : Journal) : Type 0 where
   pub run : Run (Fires net) (net .start) (j .lines) (j .marking)
   pub up : Up (j .lines)
   pub few : length (j .lines) ≤ maxLive
-  pub low : highestLive (j .lines) ≤ maxKey
+  pub low : highestLive (j .lines) .0 ≤ maxKey
   pub above : (l : LiveLine) → Mem l (j .lines) → 0 < l .key .0
 
 module _ (net : Net) (ok : netRule net ≡ true) where
@@ -68,7 +68,7 @@ module _ (net : Net) (ok : netRule net ≡ true) where
       let l : LiveLine = newLine net j t in
       let F = enabled-fires net (j .marking) t (and-l _ _ both) in
       let few : length (j .lines) < maxLive = leb-false maxLive (length (j .lines)) (clear-off (fireChecks net j t) e 17) in
-      let low : lastGiven j < maxKey = leb-false maxKey (lastGiven j) (clear-off (fireChecks net j t) e 18) in
+      let low : lastGiven j .0 < maxKey = leb-false maxKey (lastGiven j .0) (clear-off (fireChecks net j t) e 18) in
       record {
         run = run-join (Fires net) (j .lines) (l ∷ []) (net .start) (j .marking) z (H .run) (z, F, refl);
         up = up-snoc (j .lines) l (omega arith) (H .up);
@@ -79,7 +79,7 @@ module _ (net : Net) (ok : netRule net ≡ true) where
     where
       pos : (k : LiveLine) → Mem k (j .lines) ⊎ (k ≡ newLine net j t) → 0 < k .key .0
       pos k (inl h) = H .above k h
-      pos k (inr d) = let x : k .key .0 ≡ suc (lastGiven j) = ap (λ (l : LiveLine). l .key .0) d in omega arith
+      pos k (inr d) = let x : k .key .0 ≡ suc (lastGiven j .0) = ap (λ (l : LiveLine). l .key .0) d in omega arith
 
   undo-held : (j : Journal) (k : Key) → clear (undoChecks j k) ≡ true → Held net j → Held net (undoReply net j k .journal)
   undo-held j k e H =
@@ -93,7 +93,7 @@ module _ (net : Net) (ok : netRule net ≡ true) where
           let u : Up (xs ++ l ∷ ys) = rw q at (H .up) in
           let same : without k (j .lines) ≡ xs ++ ys = rw q (without-split k l xs ys r u) in
           let few : length (xs ++ l ∷ ys) ≤ maxLive = rw q at (H .few) in
-          let low : highestLive (xs ++ l ∷ ys) ≤ maxKey = rw q at (H .low) in
+          let low : highestLive (xs ++ l ∷ ys) .0 ≤ maxKey = rw q at (H .low) in
           let lk = length-skip l xs ys in
           let hk = highest-skip l xs ys in
           rw same (record {

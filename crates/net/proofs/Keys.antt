@@ -29,16 +29,16 @@ Up (l ∷ ls) = ((j : LiveLine) → Mem j ls → l .key .0 < j .key .0) × Up ls
 key-of : {j l : LiveLine} → j ≡ l → j .key .0 ≡ l .key .0
 key-of e = ap (λ (x : LiveLine). x .key .0) e
 
-pub mem-highest : (ls : List LiveLine) (j : LiveLine) → Mem j ls → j .key .0 ≤ highestLive ls
+pub mem-highest : (ls : List LiveLine) (j : LiveLine) → Mem j ls → j .key .0 ≤ highestLive ls .0
 mem-highest [] j h = absurd h
 mem-highest (l ∷ ls) j (inl e) = let k = key-of e in omega arith
 mem-highest (l ∷ ls) j (inr h) = let k = mem-highest ls j h in omega arith
 
-pub highest-snoc : (ls : List LiveLine) (l : LiveLine) → highestLive ls ≤ l .key .0 → highestLive (ls ++ (l ∷ [])) ≡ l .key .0
+pub highest-snoc : (ls : List LiveLine) (l : LiveLine) → highestLive ls .0 ≤ l .key .0 → highestLive (ls ++ (l ∷ [])) .0 ≡ l .key .0
 highest-snoc [] l h = omega arith
 highest-snoc (j ∷ ls) l h = let k = highest-snoc ls l (omega arith) in omega arith
 
-pub highest-skip : (l : LiveLine) (xs ys : List LiveLine) → highestLive (xs ++ ys) ≤ highestLive (xs ++ l ∷ ys)
+pub highest-skip : (l : LiveLine) (xs ys : List LiveLine) → highestLive (xs ++ ys) .0 ≤ highestLive (xs ++ l ∷ ys) .0
 highest-skip l [] ys = omega arith
 highest-skip l (x ∷ xs) ys = let k = highest-skip l xs ys in omega arith
 
@@ -52,7 +52,7 @@ mem-snoc [] l j (inr h) = absurd h
 mem-snoc (x ∷ ls) l j (inl e) = inl (inl e)
 mem-snoc (x ∷ ls) l j (inr h) = elim (mem-snoc ls l j h) [ inl k ↦ inl (inr k) | inr e ↦ inr e ]
 
-pub up-snoc : (ls : List LiveLine) (l : LiveLine) → highestLive ls < l .key .0 → Up ls → Up (ls ++ (l ∷ []))
+pub up-snoc : (ls : List LiveLine) (l : LiveLine) → highestLive ls .0 < l .key .0 → Up ls → Up (ls ++ (l ∷ []))
 up-snoc [] l h u = ((λ j k. absurd k), tt)
 up-snoc (x ∷ ls) l h u = ((λ j k. go j (mem-snoc ls l j k)), up-snoc ls l (omega arith) (u .1))
   where

@@ -3,11 +3,13 @@
 use mathlib.Core.Path.{_≡_}
 use mathlib.Core.Bool.{Bool, true, false}
 use mathlib.Core.List.{List, [], _∷_}
-use Prim.Native.Nat.{ℕ}
+use Prim.Native.Nat.{ℕ, _/_, _%_}
 use Rattle.net.specs.Net.{Arcs, Marking, Net, bond}
 use Rattle.net.specs.Journal.{LiveLine, Answer, fired, undone, refused, transition, key, begin, act, play}
+use Rattle.net.specs.Claims.{fireCommand}
 use Rattle.net.specs.declared.Bond.{Bond}
 use Rattle.net.specs.declared.Entry.{Entry}
+use Rattle.net.specs.declared.Key.{Key}
 
 abbrev pub entry : ℕ → ℕ → ℕ → Entry
 entry p i o = record { base = p; from = i; to = o }
@@ -34,15 +36,18 @@ netB = record {
   start = marking (0 ∷ 0 ∷ 0 ∷ 0 ∷ []) (bond 2 3 ∷ []);
 }
 
--- Commands as bytes.
+-- Commands as bytes: the transition of that number, the last firing, the firing of that key.
 abbrev pub fireOf : ℕ → List ℕ
-fireOf n = 1 ∷ n ∷ 0 ∷ []
+fireOf n = fireCommand (transition n)
 
 abbrev pub undoLast : List ℕ
 undoLast = 2 ∷ 0 ∷ 0 ∷ []
 
+abbrev undoCommand : Key → List ℕ
+undoCommand k = 3 ∷ k .0 % 256 ∷ k .0 / 256 ∷ []
+
 abbrev pub undoOf : ℕ → List ℕ
-undoOf k = 3 ∷ k ∷ 0 ∷ []
+undoOf n = undoCommand (key n)
 
 -- A case: the commands before it, its own command, and all that follows from that: the answer, the lines with their
 -- keys and moved bases, the places and the bonds.

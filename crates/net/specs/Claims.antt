@@ -13,15 +13,16 @@ use Rattle.net.specs.Firing.{inSet}
 use Rattle.net.specs.Journal.{LiveLine, Journal, Answer, fired, key, begin, act, play, answers}
 use Rattle.net.specs.History.{sound}
 use Rattle.net.specs.declared.Bond.{Bond}
+use Rattle.net.specs.declared.Transition.{Transition}
 
 -- ---- The forward run (01, the session book; the mission's demand 3)
 
 -- a transition as a command of kind 1
-abbrev pub fireCommand : ℕ → List ℕ
-fireCommand t = 1 ∷ t % 256 ∷ t / 256 ∷ []
+abbrev pub fireCommand : Transition → List ℕ
+fireCommand t = 1 ∷ t .0 % 256 ∷ t .0 / 256 ∷ []
 
 abbrev pub fireCommands : List LiveLine → List (List ℕ)
-fireCommands ls = map (λ (l : LiveLine). fireCommand (l .transition .0)) ls
+fireCommands ls = map (λ (l : LiveLine). fireCommand (l .transition)) ls
 
 -- the same transitions and moved bases, with keys k + 1, k + 2, ..
 abbrev pub numbered : ℕ → List LiveLine → List LiveLine

@@ -66,12 +66,12 @@ unreadable c =
 -- ---- Keys and lines
 
 -- the highest live key; 0 where none is live
-abbrev pub highestLive : List LiveLine → ℕ
-highestLive [] = 0
-highestLive (l ∷ ls) = max (l .key .0) (highestLive ls)
+abbrev pub highestLive : List LiveLine → Key
+highestLive [] = key 0
+highestLive (l ∷ ls) = key (max (l .key .0) (highestLive ls .0))
 
 -- The key that the next one is one above, and that refusal 18 looks at: the highest live one, 0 where none is live.
-abbrev pub lastGiven : Journal → ℕ
+abbrev pub lastGiven : Journal → Key
 lastGiven j = highestLive (j .lines)
 
 abbrev pub isLive : Key → List LiveLine → Bool
@@ -117,7 +117,7 @@ enableChecks net s t =
 
 -- 17, 18: whether one more firing can be kept.
 abbrev pub spaceChecks : Journal → List Check
-spaceChecks j = check 17 (leb maxLive (length (j .lines))) ∷ check 18 (leb maxKey (lastGiven j)) ∷ []
+spaceChecks j = check 17 (leb maxLive (length (j .lines))) ∷ check 18 (leb maxKey (lastGiven j .0)) ∷ []
 
 abbrev pub fireChecks : Net → Journal → Transition → List Check
 fireChecks net j t = enableChecks net (j .marking) t ++ spaceChecks j
@@ -132,7 +132,7 @@ transitionNamed c = transition (numberOf c)
 
 -- The key that a command of kind 2 or 3 means: kind 2 the highest live one (0, which no firing has, where none is live).
 abbrev pub keyNamed : Journal → List ℕ → Key
-keyNamed j c = key (pick (eqb (kindOf c) 2) (highestLive (j .lines)) (numberOf c))
+keyNamed j c = pick (eqb (kindOf c) 2) (highestLive (j .lines)) (key (numberOf c))
 
 -- 12 to 18 are kind 1's alone, 19 and 20 those of kinds 2 and 3.
 abbrev pub kindChecks : Net → Journal → List ℕ → List Check
@@ -148,7 +148,7 @@ abbrev pub refuse : Journal → ℕ → Reply
 refuse j n = record { journal = j; answer = refused n }
 
 abbrev pub newKey : Journal → Key
-newKey j = key (suc (lastGiven j))
+newKey j = key (suc (lastGiven j .0))
 
 abbrev pub newLine : Net → Journal → Transition → LiveLine
 newLine net j t = record { transition = t; key = newKey j; moved = moved (net .bases) (arcsOf net t) (j .marking) }

@@ -14,7 +14,7 @@ use Rattle.net.specs.Rules.{netRule}
 use Rattle.net.specs.Connection.{here}
 use Rattle.net.specs.Firing.{inSet, fire, undo}
 use Rattle.net.specs.Checks.{clear}
-use Rattle.net.specs.Journal.{LiveLine, Journal, key, highestLive, isLive, lineOf, builtOn, undoChecks, undoReply}
+use Rattle.net.specs.Journal.{LiveLine, Journal, highestLive, isLive, lineOf, builtOn, undoChecks, undoReply}
 use Rattle.net.specs.declared.Entry.{Entry}
 use Rattle.net.specs.declared.Key.{Key}
 use Rattle.net.specs.declared.Transition.{Transition}
@@ -126,33 +126,33 @@ module _ (net : Net) (ok : netRule net ≡ true) (j : Journal) (H : Held net j) 
   -- ---- Definition 6
 
   abbrev last : Key
-  last = key (highestLive (j .lines))
+  last = highestLive (j .lines)
 
-  not-built-on : (l : LiveLine) → Mem l (j .lines) → l .key .0 ≡ highestLive (j .lines) → builtOn (j .lines) l ≡ false
+  not-built-on : (l : LiveLine) → Mem l (j .lines) → l .key .0 ≡ highestLive (j .lines) .0 → builtOn (j .lines) l ≡ false
   not-built-on l m e = fails (builtOn (j .lines) l) (λ b. go (builtOn-e (j .lines) l b))
     where
       go : (h : LiveLine) × Mem h (j .lines) × (l .key .0 < h .key .0) × Dependent inSet (l .moved) (h .moved) → ⊥
       go (h, n, lt, _) = let a = mem-highest (j .lines) h n in omega arith
 
   pub last-iff : (t : Transition) → Iff
-      ((clear (undoChecks j (key (highestLive (j .lines)))) ≡ true) × (lineOf (key (highestLive (j .lines))) (j .lines) .transition ≡ t))
+      ((clear (undoChecks j (highestLive (j .lines))) ≡ true) × (lineOf (highestLive (j .lines)) (j .lines) .transition ≡ t))
       (BacktrackEnabled (petriNet net) (historyOf j) t)
   last-iff t = (
-    (λ (e, q). (highestLive (j .lines), (lineOf last (j .lines), undo-mem net ok j H last e, q, undo-key net ok j H last e), λ u i _ (h, n, _, d). let a = mem-highest (j .lines) h n in omega arith)),
+    (λ (e, q). (highestLive (j .lines) .0, (lineOf last (j .lines), undo-mem net ok j H last e, q, undo-key net ok j H last e), λ u i _ (h, n, _, d). let a = mem-highest (j .lines) h n in omega arith)),
     (λ (k, (l, m, p, q), top). latest k l m p q (highest k l m q top)),
   )
     where
-      highest : (k : ℕ) (l : LiveLine) → Mem l (j .lines) → l .key .0 ≡ k → ((u : Transition) (i : ℕ) → petriNet net .isTransition u → historyOf j u i → i ≤ k) → l .key .0 ≡ highestLive (j .lines)
+      highest : (k : ℕ) (l : LiveLine) → Mem l (j .lines) → l .key .0 ≡ k → ((u : Transition) (i : ℕ) → petriNet net .isTransition u → historyOf j u i → i ≤ k) → l .key .0 ≡ highestLive (j .lines) .0
       highest k l m q top = go (highest-is (j .lines))
         where
-          go : (highestLive (j .lines) ≡ 0) ⊎ ((h : LiveLine) × Mem h (j .lines) × (h .key .0 ≡ highestLive (j .lines))) → l .key .0 ≡ highestLive (j .lines)
+          go : (highestLive (j .lines) .0 ≡ 0) ⊎ ((h : LiveLine) × Mem h (j .lines) × (h .key .0 ≡ highestLive (j .lines) .0)) → l .key .0 ≡ highestLive (j .lines) .0
           go (inl e) = let a = mem-highest (j .lines) l m in omega arith
           go (inr (h, n, e)) = let a = mem-highest (j .lines) l m in let b = top (h .transition) (h .key .0) (line-listed net ok j H h n) (h, n, refl, refl) in omega arith
 
-      latest : (k : ℕ) (l : LiveLine) → Mem l (j .lines) → l .transition ≡ t → l .key .0 ≡ k → l .key .0 ≡ highestLive (j .lines)
-          → (clear (undoChecks j (key (highestLive (j .lines)))) ≡ true) × (lineOf (key (highestLive (j .lines))) (j .lines) .transition ≡ t)
+      latest : (k : ℕ) (l : LiveLine) → Mem l (j .lines) → l .transition ≡ t → l .key .0 ≡ k → l .key .0 ≡ highestLive (j .lines) .0
+          → (clear (undoChecks j (highestLive (j .lines))) ≡ true) × (lineOf (highestLive (j .lines)) (j .lines) .transition ≡ t)
       latest k l m p q e =
-          let live : isLive (key (highestLive (j .lines))) (j .lines) ≡ true = line-live (j .lines) l (key (highestLive (j .lines))) m e in
-          let (m′, q′) = live-line (j .lines) (key (highestLive (j .lines))) live in
-          let same : lineOf (key (highestLive (j .lines))) (j .lines) ≡ l = one-line (j .lines) (H .up) (lineOf (key (highestLive (j .lines))) (j .lines)) l m′ m (q′ ∙ sym e) in
-          (rw (live, not-built-on (lineOf (key (highestLive (j .lines))) (j .lines)) m′ q′), ap (λ (y : LiveLine). y .transition) same ∙ p)
+          let live : isLive (highestLive (j .lines)) (j .lines) ≡ true = line-live (j .lines) l (highestLive (j .lines)) m e in
+          let (m′, q′) = live-line (j .lines) (highestLive (j .lines)) live in
+          let same : lineOf (highestLive (j .lines)) (j .lines) ≡ l = one-line (j .lines) (H .up) (lineOf (highestLive (j .lines)) (j .lines)) l m′ m (q′ ∙ sym e) in
+          (rw (live, not-built-on (lineOf (highestLive (j .lines)) (j .lines)) m′ q′), ap (λ (y : LiveLine). y .transition) same ∙ p)

@@ -56,14 +56,14 @@ live-line (l ∷ ls) k h = go (sameKey (l .key) k) refl h (live-line ls k)
 
 -- ---- the highest key
 
-pub highest-is : (ls : List LiveLine) → (highestLive ls ≡ 0) ⊎ ((l : LiveLine) × Mem l ls × (l .key .0 ≡ highestLive ls))
+pub highest-is : (ls : List LiveLine) → (highestLive ls .0 ≡ 0) ⊎ ((l : LiveLine) × Mem l ls × (l .key .0 ≡ highestLive ls .0))
 highest-is [] = inl refl
-highest-is (l ∷ ls) = test (leb (highestLive ls) (l .key .0))
-    (λ e. let a = leb-true (highestLive ls) (l .key .0) e in inr (l, inl refl, omega arith))
-    (λ e. let a = leb-false (highestLive ls) (l .key .0) e in higher a (highest-is ls))
+highest-is (l ∷ ls) = test (leb (highestLive ls .0) (l .key .0))
+    (λ e. let a = leb-true (highestLive ls .0) (l .key .0) e in inr (l, inl refl, omega arith))
+    (λ e. let a = leb-false (highestLive ls .0) (l .key .0) e in higher a (highest-is ls))
   where
-    higher : l .key .0 < highestLive ls → (highestLive ls ≡ 0) ⊎ ((h : LiveLine) × Mem h ls × (h .key .0 ≡ highestLive ls))
-        → (highestLive (l ∷ ls) ≡ 0) ⊎ ((h : LiveLine) × Mem h (l ∷ ls) × (h .key .0 ≡ highestLive (l ∷ ls)))
+    higher : l .key .0 < highestLive ls .0 → (highestLive ls .0 ≡ 0) ⊎ ((h : LiveLine) × Mem h ls × (h .key .0 ≡ highestLive ls .0))
+        → (highestLive (l ∷ ls) .0 ≡ 0) ⊎ ((h : LiveLine) × Mem h (l ∷ ls) × (h .key .0 ≡ highestLive (l ∷ ls) .0))
     higher a (inl e) = absurd (let z : ⊥ = omega arith in z)
     higher a (inr (h, m, e)) = inr (h, inr m, omega arith)
 

@@ -6,7 +6,7 @@ use mathlib.Core.List.{List}
 use Prim.Native.Nat.{ℕ}
 use Rattle.net.specs.Net.{Net}
 use Rattle.net.specs.Checks.{clear}
-use Rattle.net.specs.Journal.{Journal, key, highestLive, lineOf, enableChecks, undoChecks, fireReply, undoReply, begin, play}
+use Rattle.net.specs.Journal.{Journal, highestLive, lineOf, enableChecks, undoChecks, fireReply, undoReply, begin, play}
 use Rattle.net.specs.declared.Key.{Key}
 use Rattle.net.specs.declared.Transition.{Transition}
 use Rattle.published.specs.Sets.{Iff, Item, union, minus, Max}
@@ -43,7 +43,7 @@ pub record AsPublished (net : Net) (j : Journal) (R : Order) : Type 0 where
       → (x : ℕ) (i : Item) → Iff (marksOf net (fireReply net j t .journal .marking) x i) (firedMarks (petriNet net) (marksOf net (j .marking)) t x i)
   -- kind 2 is accepted, and takes back a firing of t, exactly where t is bt-enabled (Definition 6)
   pub last : (t : Transition) → Iff
-      ((clear (undoChecks j (key (highestLive (j .lines)))) ≡ true) × (lineOf (key (highestLive (j .lines))) (j .lines) .transition ≡ t))
+      ((clear (undoChecks j (highestLive (j .lines))) ≡ true) × (lineOf (highestLive (j .lines)) (j .lines) .transition ≡ t))
       (BacktrackEnabled (petriNet net) (historyOf j) t)
   -- ≺ is "of higher key, with a common moved base"
   pub order : (u : Transition) (i : ℕ) (t : Transition) (k : ℕ) → Iff (R u i t k) (laterWithCommon j u i t k)
