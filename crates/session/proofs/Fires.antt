@@ -74,7 +74,7 @@ module _ (s : List ℕ) (r : Record) (t : Transition) (S : Sound s r) where
         sym (by-first false 17 (clear-space ∙ rw q) (first-space ∙ rw q))
 
     module _ (room : r .live < maxLive) (last : ℕ) (el : last ≡ lastKey (r .live) (r .firings)) where
-      given : last ≡ lastGiven j
+      given : last ≡ lastGiven j .0
       given = el ∙ last-given (basesOf s) (r .live) (r .firings) (held s r S .up)
 
       not-full : leb maxLive (length (j .lines)) ≡ false
@@ -82,7 +82,7 @@ module _ (s : List ℕ) (r : Record) (t : Transition) (S : Sound s r) where
 
       pub spent : maxKey ≤ last → refusal r 18 ≡ fireOutcome s r t
       spent h =
-          let q : leb maxKey (lastGiven j) ≡ true = ap (leb maxKey) (sym given) ∙ le-leb maxKey last h in
+          let q : leb maxKey (lastGiven j .0) ≡ true = ap (leb maxKey) (sym given) ∙ le-leb maxKey last h in
           sym (by-first false 18 (clear-space ∙ rw (not-full, q)) (first-space ∙ rw (not-full, q)))
 
       pub done : last < maxKey → (m : Marking) (x : List Bool) → m ≡ laid (fire (basesOf s) (arcsOf (netOf s) t) (markingOf (basesOf s) (r .marking)))
@@ -94,9 +94,9 @@ module _ (s : List ℕ) (r : Record) (t : Transition) (S : Sound s r) where
           } ≡ fireOutcome s r t
       unfolding recordOf netOf
       done h m x em ex =
-          let q : leb maxKey (lastGiven j) ≡ false = ap (leb maxKey) (sym given) ∙ lt-leb maxKey last h in
+          let q : leb maxKey (lastGiven j .0) ≡ false = ap (leb maxKey) (sym given) ∙ lt-leb maxKey last h in
           let l : LiveLine = newLine (netOf s) j t in
-          let k : last + 1 ≡ suc (lastGiven j) = add-one last ∙ ap suc given in
+          let k : last + 1 ≡ suc (lastGiven j .0) = add-one last ∙ ap suc given in
           let size : length (j .lines) < maxLive = (let a = live-is s r S in omega arith) in
           let live : r .live + 1 ≡ length (j .lines ++ (l ∷ [])) = (let a = live-is s r S in let b = length-append (j .lines) (l ∷ []) in omega arith) in
           let fs : set (r .firings) (r .live) (record { transition = t .0; key = key (last + 1); moved = x }) ≡ firingsOf (j .lines ++ (l ∷ [])) =

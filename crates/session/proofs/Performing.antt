@@ -20,7 +20,7 @@ use Rattle.session.specs.declared.Decoded.the-variants.{Given, Unreadabl
 
 abbrev pub commanded : List ℕ → Record → Command → Outcome
 commanded s r (Fire t) = fireOutcome s r t
-commanded s r UndoLast = undoOutcome s r (key (highestLive (heldIn s r .lines)))
+commanded s r UndoLast = undoOutcome s r (highestLive (heldIn s r .lines))
 commanded s r (Undo k) = undoOutcome s r k
 
 abbrev pub byDecoded : List ℕ → Record → Decoded → Outcome
@@ -32,9 +32,9 @@ unfolding performOf fireOutcome undoOutcome
 perform-decoded s r c = go (cutShort c) (unreadable c) (eqb (kindOf c) 1) (eqb (kindOf c) 2)
   where
     go : (cut bad one two : Bool)
-        → pick (not cut && (not bad && clear (pick one (fireChecks (netOf s) (heldIn s r) (transitionNamed c)) (undoChecks (heldIn s r) (key (pick two (highestLive (heldIn s r .lines)) (numberOf c)))))))
-        (outcomeOf (pick one (fireReply (netOf s) (heldIn s r) (transitionNamed c)) (undoReply (netOf s) (heldIn s r) (key (pick two (highestLive (heldIn s r .lines)) (numberOf c))))))
-        (refusal r (pick cut 21 (pick bad 11 (first (pick one (fireChecks (netOf s) (heldIn s r) (transitionNamed c)) (undoChecks (heldIn s r) (key (pick two (highestLive (heldIn s r .lines)) (numberOf c)))))))))
+        → pick (not cut && (not bad && clear (pick one (fireChecks (netOf s) (heldIn s r) (transitionNamed c)) (undoChecks (heldIn s r) (pick two (highestLive (heldIn s r .lines)) (key (numberOf c)))))))
+        (outcomeOf (pick one (fireReply (netOf s) (heldIn s r) (transitionNamed c)) (undoReply (netOf s) (heldIn s r) (pick two (highestLive (heldIn s r .lines)) (key (numberOf c))))))
+        (refusal r (pick cut 21 (pick bad 11 (first (pick one (fireChecks (netOf s) (heldIn s r) (transitionNamed c)) (undoChecks (heldIn s r) (pick two (highestLive (heldIn s r .lines)) (key (numberOf c)))))))))
         ≡ pick cut (refusal r 21) (byDecoded s r (pick bad Unreadable (Given (pick one (Fire (transitionNamed c)) (pick two UndoLast (Undo (key (numberOf c))))))))
     go true bad one two = refl
     go false true one two = refl

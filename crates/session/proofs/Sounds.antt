@@ -61,16 +61,16 @@ module _ (s : List ℕ) (r : Record) (S : Sound s r) where
 
 -- ---- the last key
 
-up-below : (xs : List LiveLine) (l : LiveLine) → Up (xs ++ (l ∷ [])) → highestLive xs ≤ l .key .0
+up-below : (xs : List LiveLine) (l : LiveLine) → Up (xs ++ (l ∷ [])) → highestLive xs .0 ≤ l .key .0
 up-below [] l u = omega arith
 up-below (x ∷ xs) l u = let a = u .0 l (mem-mid l xs []) in let b = up-below xs l (u .1) in omega arith
 
-last-of : (g : ℕ → LiveLine) (k : ℕ) → Up (table (suc k) g) → highestLive (table (suc k) g) ≡ g k .key .0
+last-of : (g : ℕ → LiveLine) (k : ℕ) → Up (table (suc k) g) → highestLive (table (suc k) g) .0 ≡ g k .key .0
 last-of g k u =
     let u′ : Up (table k g ++ (g k ∷ [])) = subst (λ (x : List LiveLine). Up x) (table-snoc k g) u in
-    ap highestLive (table-snoc k g) ∙ highest-snoc (table k g) (g k) (up-below (table k g) (g k) u′)
+    ap (λ (ls : List LiveLine). highestLive ls .0) (table-snoc k g) ∙ highest-snoc (table k g) (g k) (up-below (table k g) (g k) u′)
 
-pub last-given : (n k : ℕ) (fs : List Firing) → Up (linesIn n k fs) → lastKey k fs ≡ highestLive (linesIn n k fs)
+pub last-given : (n k : ℕ) (fs : List Firing) → Up (linesIn n k fs) → lastKey k fs ≡ highestLive (linesIn n k fs) .0
 last-given n zero fs u = refl
 last-given n (suc k) fs u =
     let e : suc k - 1 ≡ k = omega arith in
