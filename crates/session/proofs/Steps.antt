@@ -27,7 +27,7 @@ use Rattle.session.proofs.Forms.{FitsRecord, journal-back, record-form}
 use Rattle.session.specs.Commands.{refusal, outcomeOf, acceptOf, performOf, Result, outcomeFor, commandOf, freshOf}
 use Rattle.session.specs.Runs.{answered, Session, runOf}
 use Rattle.session.specs.declared.Outcome.{Outcome}
-use Rattle.session.proofs.FitsRecord.{held-fits}
+use Rattle.session.proofs.Fits.{held-fits}
 
 -- ---- the first check of two lists
 

@@ -74,7 +74,7 @@ module _ (s : List ℕ) (r : Record) (k : Key) (S : Sound s r) where
       found = rw place-is (place-found k ls (let a = live-is s r S in let c = place-is in omega arith))
 
       abbrev l : LiveLine
-      l = J.asLine k ls
+      l = J.lineOf k ls
 
       mem-l : Mem l ls
       mem-l = subst (λ (x : List LiveLine). Mem l x) (sym (found .split)) (mem-mid l (found .before) (found .after))
