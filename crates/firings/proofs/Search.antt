@@ -10,6 +10,7 @@ use lib.Dec.{eqb}
 use lib.ListN.{length, getD, take, drop, drop-of-length-le}
 use lib.Seq.{drop-cons, take-suc}
 use borrow.Author.Tests.{eq-eqb, ne-eqb}
+use Rattle.net.specs.declared.Key.{Key}
 use Rattle.net.specs.Tests.{pick, any, table}
 use Rattle.net.proofs.Tests.{any-append}
 use Rattle.net.proofs.Tables.{length-table, getD-table}
@@ -17,23 +18,23 @@ use Rattle.firings.specs.Search.{indexOf}
 
 -- ---- a key
 
-module _ (key : ℕ) (f : ℕ → ℕ) (n : ℕ) where
-  place-step : (i : ℕ) → i < n → indexOf key (drop i (table n f)) ≡ pick (eqb (f i) key) 0 (suc (indexOf key (drop (suc i) (table n f))))
-  place-step i h =
+module _ (key : Key) (f : ℕ → ℕ) (n : ℕ) where
+  index-step : (i : ℕ) → i < n → indexOf key (drop i (table n f)) ≡ pick (eqb (f i) (key .0)) 0 (suc (indexOf key (drop (suc i) (table n f))))
+  index-step i h =
       let size : i < length (table n f) = rw length-table h in
-      ap (indexOf key) (drop-cons (table n f) i 0 size) ∙ ap (λ (x : ℕ). pick (eqb x key) 0 (suc (indexOf key (drop (suc i) (table n f))))) (getD-table n f i 0 h)
+      ap (indexOf key) (drop-cons (table n f) i 0 size) ∙ ap (λ (x : ℕ). pick (eqb x (key .0)) 0 (suc (indexOf key (drop (suc i) (table n f))))) (getD-table n f i 0 h)
 
-  pub place-found : (w i : ℕ) → i < n → w ≡ i + indexOf key (drop i (table n f)) → f i ≡ key → i ≡ w
-  place-found w i h e q = let z = place-step i h ∙ ap (λ (b : Bool). pick b 0 (suc (indexOf key (drop (suc i) (table n f))))) (eq-eqb (f i) key q) in omega arith
+  pub index-found : (w i : ℕ) → i < n → w ≡ i + indexOf key (drop i (table n f)) → f i ≡ key .0 → i ≡ w
+  index-found w i h e q = let z = index-step i h ∙ ap (λ (b : Bool). pick b 0 (suc (indexOf key (drop (suc i) (table n f))))) (eq-eqb (f i) (key .0) q) in omega arith
 
-  pub place-on : (w i : ℕ) → i < n → w ≡ i + indexOf key (drop i (table n f)) → (f i ≡ key → ⊥) → w ≡ i + 1 + indexOf key (drop (i + 1) (table n f))
-  place-on w i h e q =
-      let z = place-step i h ∙ ap (λ (b : Bool). pick b 0 (suc (indexOf key (drop (suc i) (table n f))))) (ne-eqb (f i) key q) in
+  pub index-on : (w i : ℕ) → i < n → w ≡ i + indexOf key (drop i (table n f)) → (f i ≡ key .0 → ⊥) → w ≡ i + 1 + indexOf key (drop (i + 1) (table n f))
+  index-on w i h e q =
+      let z = index-step i h ∙ ap (λ (b : Bool). pick b 0 (suc (indexOf key (drop (suc i) (table n f))))) (ne-eqb (f i) (key .0) q) in
       let y : indexOf key (drop (i + 1) (table n f)) ≡ indexOf key (drop (suc i) (table n f)) = ap (λ (k : ℕ). indexOf key (drop k (table n f))) (add-one i) in
       omega arith
 
-  pub place-none : (w i : ℕ) → n ≡ i → w ≡ i + indexOf key (drop i (table n f)) → n ≡ w
-  place-none w i h e =
+  pub index-none : (w i : ℕ) → n ≡ i → w ≡ i + indexOf key (drop i (table n f)) → n ≡ w
+  index-none w i h e =
       let size : length (table n f) ≤ i = (let s = length-table n f in omega arith) in
       let z : indexOf key (drop i (table n f)) ≡ 0 = ap (indexOf key) (drop-of-length-le (table n f) size) in
       omega arith

@@ -7,6 +7,7 @@ ghost use Prim.Native.Nat.{_+_, _<_, _≤_};
 ghost use lib.Dec.{ltb};
 ghost use lib.ListN.{take, getD, length};
 ghost use Rattle.net.specs.Limits.{maxBases, maxLive};
+ghost use Rattle.net.specs.Journal.{transition};
 ghost use Rattle.net.specs.Tests.{pick, sameList};
 ghost use Rattle.firings.specs.Lines.{past, noFiring, closedUp};
 ghost use Rattle.firings.specs.Search.{lastKey, indexOf, builtOnIn};
@@ -17,12 +18,21 @@ use net::Key;
 use net::MAX_BASES;
 use net::MAX_KEY;
 use net::MAX_LIVE;
+use net::Transition;
 
-// A live firing. The transition's number is kept in one byte.
+// A live firing. The transition's number is kept in one byte; `transition_of` is what reads it.
 pub struct Firing {
     pub transition: u8,
     pub key: Key,
     pub moved: [bool; MAX_BASES],
+}
+
+impl Firing {
+    pub fn transition_of(self) -> Transition
+        ensures { λ r. ⌜ r ≡ transition (self .transition) ⌝ }
+    {
+        Transition(self.transition as u16)
+    }
 }
 
 // An unused entry.
@@ -138,21 +148,21 @@ pub fn same_flags(a: [bool; MAX_BASES], b: [bool; MAX_BASES], n: usize) -> bool
 }
 
 // The key of the last live firing; 0 where none is live.
-pub fn last_key(firings: [Firing; MAX_LIVE], live: usize) -> u16
+pub fn last_key(firings: [Firing; MAX_LIVE], live: usize) -> Key
     requires { ⌜ live ≤ maxLive ⌝ }
     ensures { λ r. ⌜ r ≡ lastKey live firings ⌝ }
 {
     if live == 0 {
-        return 0;
+        return Key(0);
     }
     let f = firings[live - 1];
-    f.key.0
+    f.key
 }
 
 // Where the live firing of that key stands; `live` where there is none.
 pub fn index_of(firings: [Firing; MAX_LIVE], live: usize, key: Key) -> usize
     requires { ⌜ live ≤ maxLive ⌝ }
-    ensures { λ r. ⌜ r ≡ indexOf (key .0) (liveKeys live firings) ⌝ }
+    ensures { λ r. ⌜ r ≡ indexOf key (liveKeys live firings) ⌝ }
 {
     let mut i = 0;
     while i < live {

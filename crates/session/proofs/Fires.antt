@@ -15,6 +15,7 @@ use Rattle.net.specs.Net.{arcsOf}
 use Rattle.net.specs.Firing.{moved, fire}
 use Rattle.net.specs.Checks.{Check, clear, first}
 use Rattle.net.specs.Journal.{LiveLine, Journal, key, lastGiven, enableChecks, spaceChecks, fireChecks, newLine, fireReply}
+use Rattle.net.specs.declared.Key.{Key}
 use Rattle.net.specs.declared.Transition.{Transition}
 use Rattle.net.proofs.Checks.{clear-append}
 use Rattle.format.specs.Parts.{basesOf, transitionsOf}
@@ -73,37 +74,37 @@ module _ (s : List ℕ) (r : Record) (t : Transition) (S : Sound s r) where
         let q : leb maxLive (length (j .lines)) ≡ true = ap (leb maxLive) (sym (live-is s r S)) ∙ le-leb maxLive (r .live) h in
         sym (by-first false 17 (clear-space ∙ rw q) (first-space ∙ rw q))
 
-    module _ (room : r .live < maxLive) (last : ℕ) (el : last ≡ lastKey (r .live) (r .firings)) where
-      given : last ≡ lastGiven j .0
+    module _ (room : r .live < maxLive) (last : Key) (el : last ≡ lastKey (r .live) (r .firings)) where
+      given : last ≡ lastGiven j
       given = el ∙ last-given (basesOf s) (r .live) (r .firings) (held s r S .up)
 
       not-full : leb maxLive (length (j .lines)) ≡ false
       not-full = ap (leb maxLive) (sym (live-is s r S)) ∙ lt-leb maxLive (r .live) room
 
-      pub spent : maxKey ≤ last → refusal r 18 ≡ fireOutcome s r t
+      pub spent : maxKey ≤ last .0 → refusal r 18 ≡ fireOutcome s r t
       spent h =
-          let q : leb maxKey (lastGiven j .0) ≡ true = ap (leb maxKey) (sym given) ∙ le-leb maxKey last h in
+          let q : leb maxKey (lastGiven j .0) ≡ true = ap (λ (k : Key). leb maxKey (k .0)) (sym given) ∙ le-leb maxKey (last .0) h in
           sym (by-first false 18 (clear-space ∙ rw (not-full, q)) (first-space ∙ rw (not-full, q)))
 
-      pub done : last < maxKey → (m : Marking) (x : List Bool) → m ≡ laid (fire (basesOf s) (arcsOf (netOf s) t) (markingOf (basesOf s) (r .marking)))
+      pub done : last .0 < maxKey → (m : Marking) (x : List Bool) → m ≡ laid (fire (basesOf s) (arcsOf (netOf s) t) (markingOf (basesOf s) (r .marking)))
           → x ≡ flags (moved (basesOf s) (arcsOf (netOf s) t) (markingOf (basesOf s) (r .marking)))
           → record {
             answer = Fired;
-            key = key (last + 1);
-            session = record { marking = m; live = r .live + 1; firings = set (r .firings) (r .live) (record { transition = t .0; key = key (last + 1); moved = x }) };
+            key = key (last .0 + 1);
+            session = record { marking = m; live = r .live + 1; firings = set (r .firings) (r .live) (record { transition = t .0; key = key (last .0 + 1); moved = x }) };
           } ≡ fireOutcome s r t
       unfolding recordOf netOf
       done h m x em ex =
-          let q : leb maxKey (lastGiven j .0) ≡ false = ap (leb maxKey) (sym given) ∙ lt-leb maxKey last h in
+          let q : leb maxKey (lastGiven j .0) ≡ false = ap (λ (k : Key). leb maxKey (k .0)) (sym given) ∙ lt-leb maxKey (last .0) h in
           let l : LiveLine = newLine (netOf s) j t in
-          let k : last + 1 ≡ suc (lastGiven j .0) = add-one last ∙ ap suc given in
+          let k : last .0 + 1 ≡ suc (lastGiven j .0) = add-one (last .0) ∙ ap (λ (y : Key). suc (y .0)) given in
           let size : length (j .lines) < maxLive = (let a = live-is s r S in omega arith) in
           let live : r .live + 1 ≡ length (j .lines ++ (l ∷ [])) = (let a = live-is s r S in let b = length-append (j .lines) (l ∷ []) in omega arith) in
-          let fs : set (r .firings) (r .live) (record { transition = t .0; key = key (last + 1); moved = x }) ≡ firingsOf (j .lines ++ (l ∷ [])) =
+          let fs : set (r .firings) (r .live) (record { transition = t .0; key = key (last .0 + 1); moved = x }) ≡ firingsOf (j .lines ++ (l ∷ [])) =
           (λ i. set (firings-are s r S i) (live-is s r S i) (record { transition = t .0; key = key (k i); moved = ex i })) ∙ with-line (j .lines) l size in
           let so : record {
             answer = Fired;
-            key = key (last + 1);
-            session = record { marking = m; live = r .live + 1; firings = set (r .firings) (r .live) (record { transition = t .0; key = key (last + 1); moved = x }) };
+            key = key (last .0 + 1);
+            session = record { marking = m; live = r .live + 1; firings = set (r .firings) (r .live) (record { transition = t .0; key = key (last .0 + 1); moved = x }) };
           } ≡ outcomeOf (fireReply (netOf s) j t) = λ i. record { answer = Fired; key = key (k i); session = record { marking = em i; live = live i; firings = fs i } } in
           so ∙ sym (by-first true 0 (clear-space ∙ rw (not-full, q)) (first-space ∙ rw (not-full, q)))

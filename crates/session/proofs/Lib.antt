@@ -10,3 +10,4 @@ pub mod Undoes
 pub mod Steps
 pub mod Answering
 pub mod Begins
+pub mod Answers

@@ -23,19 +23,19 @@ lineKeys ls = map (λ (l : LiveLine). l .key .0) ls
 
 -- ---- a key's place
 
-pub place-most : (k : Key) (ls : List LiveLine) → indexOf (k .0) (lineKeys ls) ≤ length ls
+pub place-most : (k : Key) (ls : List LiveLine) → indexOf k (lineKeys ls) ≤ length ls
 place-most k [] = omega arith
 place-most k (l ∷ ls) = go (sameKey (l .key) k) (place-most k ls)
   where
-    go : (b : Bool) → indexOf (k .0) (lineKeys ls) ≤ length ls → pick b 0 (suc (indexOf (k .0) (lineKeys ls))) ≤ suc (length ls)
+    go : (b : Bool) → indexOf k (lineKeys ls) ≤ length ls → pick b 0 (suc (indexOf k (lineKeys ls))) ≤ suc (length ls)
     go true h = omega arith
     go false h = omega arith
 
-pub place-dead : (k : Key) (ls : List LiveLine) → indexOf (k .0) (lineKeys ls) ≡ length ls → isLive k ls ≡ false
+pub place-dead : (k : Key) (ls : List LiveLine) → indexOf k (lineKeys ls) ≡ length ls → isLive k ls ≡ false
 place-dead k [] e = refl
 place-dead k (l ∷ ls) e = go (sameKey (l .key) k) e (place-dead k ls)
   where
-    go : (b : Bool) → pick b 0 (suc (indexOf (k .0) (lineKeys ls))) ≡ suc (length ls) → (indexOf (k .0) (lineKeys ls) ≡ length ls → isLive k ls ≡ false) → (b || isLive k ls) ≡ false
+    go : (b : Bool) → pick b 0 (suc (indexOf k (lineKeys ls))) ≡ suc (length ls) → (indexOf k (lineKeys ls) ≡ length ls → isLive k ls ≡ false) → (b || isLive k ls) ≡ false
     go true h ih = absurd (let z : ⊥ = omega arith in z)
     go false h ih = ih (omega arith)
 
@@ -49,7 +49,7 @@ pub record Found (k : Key) (ls : List LiveLine) (i : ℕ) : Type 0 where
   pub live : isLive k ls ≡ true
   pub line : (d : LiveLine) → getD ls i d ≡ J.lineOf k ls
 
-pub place-found : (k : Key) (ls : List LiveLine) → indexOf (k .0) (lineKeys ls) < length ls → Found k ls (indexOf (k .0) (lineKeys ls))
+pub place-found : (k : Key) (ls : List LiveLine) → indexOf k (lineKeys ls) < length ls → Found k ls (indexOf k (lineKeys ls))
 place-found k [] h = absurd (let z : ⊥ = omega arith in z)
 place-found k (l ∷ ls) h = go (sameKey (l .key) k) refl h (place-found k ls)
   where
@@ -58,18 +58,18 @@ place-found k (l ∷ ls) h = go (sameKey (l .key) k) refl h (place-found k ls)
         (before : List LiveLine) × (after : List LiveLine) × (l ∷ ls ≡ before ++ pick b l (J.lineOf k ls) ∷ after) × (length before ≡ i)
         × (pick b l (J.lineOf k ls) .key .0 ≡ k .0) × ((b || isLive k ls) ≡ true) × ((d : LiveLine) → getD (l ∷ ls) i d ≡ pick b l (J.lineOf k ls))
 
-    pack : Is (sameKey (l .key) k) (indexOf (k .0) (lineKeys (l ∷ ls))) → Found k (l ∷ ls) (indexOf (k .0) (lineKeys (l ∷ ls)))
+    pack : Is (sameKey (l .key) k) (indexOf k (lineKeys (l ∷ ls))) → Found k (l ∷ ls) (indexOf k (lineKeys (l ∷ ls)))
     pack (u, v, e, p, q, a, f) = record { before = u; after = v; split = e; place = p; key = q; live = a; line = f }
 
-    is : (b : Bool) → sameKey (l .key) k ≡ b → pick b 0 (suc (indexOf (k .0) (lineKeys ls))) < suc (length ls)
-        → (indexOf (k .0) (lineKeys ls) < length ls → Found k ls (indexOf (k .0) (lineKeys ls))) → Is b (pick b 0 (suc (indexOf (k .0) (lineKeys ls))))
+    is : (b : Bool) → sameKey (l .key) k ≡ b → pick b 0 (suc (indexOf k (lineKeys ls))) < suc (length ls)
+        → (indexOf k (lineKeys ls) < length ls → Found k ls (indexOf k (lineKeys ls))) → Is b (pick b 0 (suc (indexOf k (lineKeys ls))))
     is true e g ih = ([], ls, refl, refl, eqb-true (l .key .0) (k .0) e, refl, λ d. refl)
     is false e g ih =
         let F = ih (omega arith) in
         (l ∷ F .before, F .after, (λ i. l ∷ F .split i), ap suc (F .place), F .key, F .live, F .line)
 
-    go : (b : Bool) → sameKey (l .key) k ≡ b → indexOf (k .0) (lineKeys (l ∷ ls)) < suc (length ls)
-        → (indexOf (k .0) (lineKeys ls) < length ls → Found k ls (indexOf (k .0) (lineKeys ls))) → Found k (l ∷ ls) (indexOf (k .0) (lineKeys (l ∷ ls)))
+    go : (b : Bool) → sameKey (l .key) k ≡ b → indexOf k (lineKeys (l ∷ ls)) < suc (length ls)
+        → (indexOf k (lineKeys ls) < length ls → Found k ls (indexOf k (lineKeys ls))) → Found k (l ∷ ls) (indexOf k (lineKeys (l ∷ ls)))
     go b e g ih = pack (is (sameKey (l .key) k) refl g ih)
 
 -- ---- flags with unset ones after them

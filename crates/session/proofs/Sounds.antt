@@ -12,7 +12,7 @@ use Rattle.net.specs.Limits.{maxBases, maxLive}
 use Rattle.net.specs.Tests.{pick, table}
 use Rattle.net.specs.Rules.{netRule}
 use Rattle.net.specs.Marking.{Good}
-use Rattle.net.specs.Journal.{LiveLine, highestLive}
+use Rattle.net.specs.Journal.{key, LiveLine, highestLive}
 use Rattle.net.specs.History.{sound}
 use Rattle.net.proofs.Tests.{and-r}
 use Rattle.net.proofs.Tables.{length-table, table-snoc}
@@ -70,9 +70,9 @@ last-of g k u =
     let u′ : Up (table k g ++ (g k ∷ [])) = subst (λ (x : List LiveLine). Up x) (table-snoc k g) u in
     ap (λ (ls : List LiveLine). highestLive ls .0) (table-snoc k g) ∙ highest-snoc (table k g) (g k) (up-below (table k g) (g k) u′)
 
-pub last-given : (n k : ℕ) (fs : List Firing) → Up (linesIn n k fs) → lastKey k fs ≡ highestLive (linesIn n k fs) .0
+pub last-given : (n k : ℕ) (fs : List Firing) → Up (linesIn n k fs) → lastKey k fs ≡ highestLive (linesIn n k fs)
 last-given n zero fs u = refl
 last-given n (suc k) fs u =
     let e : suc k - 1 ≡ k = omega arith in
-    ap (λ (b : Bool). pick b 0 (getD fs (suc k - 1) past .key .0)) (ne-eqb (suc k) 0 (λ h. omega arith)) ∙ ap (λ (j : ℕ). getD fs j past .key .0) e
-    ∙ sym (last-of (λ i. asLine n (getD fs i past)) k u)
+    ap (λ (b : Bool). pick b (key 0) (getD fs (suc k - 1) past .key)) (ne-eqb (suc k) 0 (λ h. omega arith)) ∙ ap (λ (j : ℕ). getD fs j past .key) e
+    ∙ ap key (sym (last-of (λ i. asLine n (getD fs i past)) k u))

@@ -58,15 +58,15 @@ module _ (s : List ℕ) (r : Record) (k : Key) (S : Sound s r) where
   unfolding undoOutcome
   by-first a n e f = λ i. pick (e i) (outcomeOf (undoReply (netOf s) j k)) (refusal r (f i))
 
-  module _ (i : ℕ) (ei : i ≡ indexOf (k .0) (liveKeys (r .live) (r .firings))) where
-    place-is : i ≡ indexOf (k .0) (lineKeys ls)
-    place-is = ei ∙ ap (indexOf (k .0)) (sym (map-table (λ (l : LiveLine). l .key .0) (r .live) (λ x. asLine (basesOf s) (getD (r .firings) x past))))
+  module _ (i : ℕ) (ei : i ≡ indexOf k (liveKeys (r .live) (r .firings))) where
+    place-is : i ≡ indexOf k (lineKeys ls)
+    place-is = ei ∙ ap (indexOf k) (sym (map-table (λ (l : LiveLine). l .key .0) (r .live) (λ x. asLine (basesOf s) (getD (r .firings) x past))))
 
     pub dead : r .live ≤ i → refusal r 19 ≡ undoOutcome s r k
     dead h =
         let a = live-is s r S in
         let b = place-most k ls in
-        let e : indexOf (k .0) (lineKeys ls) ≡ length ls = (let c = place-is in omega arith) in
+        let e : indexOf k (lineKeys ls) ≡ length ls = (let c = place-is in omega arith) in
         sym (by-first false 19 (rw (place-dead k ls e)) (rw (place-dead k ls e)))
 
     module _ (h : i < r .live) where

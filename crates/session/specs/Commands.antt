@@ -1,5 +1,6 @@
 -- Starting a session, and one command on a record: the checks in order, the answer, the key, the record, the tally.
 -- Definitions only (01, commands, record, tally; the turned-away list). `commandOf` fixes every outcome whole.
+use mathlib.Core.Path.{_≡_}
 use mathlib.Core.Bool.{not}
 use mathlib.Core.List.{List, [], _∷_, _++_}
 use Prim.Native.Nat.{ℕ}
@@ -70,17 +71,26 @@ keyOf (J.fired k) = k
 keyOf (J.undone k) = k
 keyOf (J.refused n) = key 0
 
--- Document 01's number of each answer: 0 where the command is accepted.
-abbrev pub answerNumber : Answer → ℕ
-answerNumber Fired = 0
-answerNumber Undone = 0
-answerNumber (Refused n) = n
+-- What an answer says (01, the exam program): a word, and the number after it. Word 0 is fired and 1 undone, with the
+-- serial; 2 is refused, with the list's number. The tally's counts stand in the same order, so this one numbering serves
+-- the tally, the answer line and a list of answers.
+abbrev pub wordOf : Answer → ℕ
+wordOf Fired = 0
+wordOf Undone = 1
+wordOf (Refused n) = 2
 
--- The count that a command adds to: fired, undone or refused.
-abbrev pub countOf : Answer → ℕ
-countOf Fired = 0
-countOf Undone = 1
-countOf (Refused n) = 2
+abbrev pub valueOf : Answer → Key → ℕ
+valueOf Fired k = k .0
+valueOf Undone k = k .0
+valueOf (Refused n) k = n
+
+-- The journal's answer that a word and a value say: so no two answers say the same (proofs/Answers).
+abbrev pub heardOf : ℕ → ℕ → J.Answer
+heardOf word value = pick (eqb word 0) (J.fired (key value)) (pick (eqb word 1) (J.undone (key value)) (J.refused value))
+
+-- Document 01's number of each answer: the list's number where it says refused, 0 where the command is accepted.
+abbrev pub answerNumber : Answer → ℕ
+answerNumber a = pick (eqb (wordOf a) 2) (valueOf a (key 0)) 0
 
 -- A journal's reply, as an outcome.
 abbrev pub outcomeOf : J.Reply → Outcome
@@ -120,4 +130,11 @@ outcomeFor s r c = pick (clear (commandChecks s r c)) (acceptOf s r c) (refusal 
 
 -- Every outcome whole: answer, key, record, tally, on acceptance and on refusal.
 unfoldable pub commandOf : List ℕ → Record → Tally → List ℕ → Result
-commandOf s r t c = record { outcome = outcomeFor s r c; tally = countedOf t (countOf (outcomeFor s r c .answer)) }
+commandOf s r t c = record { outcome = outcomeFor s r c; tally = countedOf t (wordOf (outcomeFor s r c .answer)) }
+
+-- What the call of a command promises of the outcome o and of the lent tally u: both are the definition's, and the answer's
+-- number is that of the first check that holds, 0 where none does.
+pub record Commanded (s : List ℕ) (r : Record) (t : Tally) (c : List ℕ) (o : Outcome) (u : Tally) : Type 0 where
+  pub outcome : o ≡ commandOf s r t c .outcome
+  pub tally : u ≡ commandOf s r t c .tally
+  pub number : answerNumber (o .answer) ≡ first (commandChecks s r c)

@@ -1,8 +1,9 @@
 // Commands on the session record (document 01, commands, record, tally): the record goes in by value and comes out.
+// A customer's command checks sheet and record first; the inner methods ask for a sound record.
 ghost use mathlib.Core.Path.{_≡_};
 ghost use Prim.Native.Nat.{_<_};
 ghost use Rattle.session.specs.Records.{Sound};
-ghost use Rattle.session.specs.Commands.{decodedOf, countOf, refusal, fireOutcome, undoOutcome, performOf, outcomeFor, commandOf};
+ghost use Rattle.session.specs.Commands.{decodedOf, wordOf, valueOf, refusal, fireOutcome, undoOutcome, performOf, outcomeFor, Commanded};
 use firings::Firing;
 use firings::built_on;
 use firings::closed_up;
@@ -90,14 +91,25 @@ pub fn decode(bytes: &[u8]) -> Decoded
     Decoded::Given(Command::UndoLast)
 }
 
-// The count of the tally that an answer adds to.
-pub fn count_of(a: Answer) -> u8
-    ensures { λ r. ⌜ r ≡ countOf a ⌝ }
+// The word that an answer says, which is also the tally's count that it adds to: 0 fired, 1 undone, 2 refused.
+pub fn word_of(a: Answer) -> u8
+    ensures { λ r. ⌜ r ≡ wordOf a ⌝ }
 {
     match a {
         Answer::Fired => 0,
         Answer::Undone => 1,
         Answer::Refused(_) => 2,
+    }
+}
+
+// The number after the word: the key, or the refusal's number.
+pub fn value_of(a: Answer, key: Key) -> u16
+    ensures { λ r. ⌜ r ≡ valueOf a key ⌝ }
+{
+    match a {
+        Answer::Fired => key.0,
+        Answer::Undone => key.0,
+        Answer::Refused(n) => n as u16,
     }
 }
 
@@ -135,7 +147,7 @@ impl Record {
             return self.refused(17);
         }
         let last = last_key(firings, live);
-        if MAX_KEY <= last {
+        if MAX_KEY <= last.0 {
             return self.refused(18);
         }
         let moved = moved_by(sheet, m, t);
@@ -144,12 +156,12 @@ impl Record {
         next.live = live + 1;
         next.firings[live] = Firing {
             transition: t.0 as u8,
-            key: Key(last + 1),
+            key: Key(last.0 + 1),
             moved: moved,
         };
         Outcome {
             answer: Answer::Fired,
-            key: Key(last + 1),
+            key: Key(last.0 + 1),
             session: next,
         }
     }
@@ -171,7 +183,7 @@ impl Record {
         }
         let f = firings[i];
         let moved = f.moved;
-        let before = undone(sheet, m, Transition(f.transition as u16), moved);
+        let before = undone(sheet, m, f.transition_of(), moved);
         let left = closed_up(firings, live, i);
         Outcome {
             answer: Answer::Undone,
@@ -203,13 +215,13 @@ impl Record {
                 let firings = self.firings;
                 let live = self.live;
                 let last = last_key(firings, live);
-                self.undo(sheet, Key(last))
+                self.undo(sheet, last)
             }
         }
     }
 
     // Any command on any record and any sheet: 1 to 9, 10, then the command.
-    pub fn answer(self, sheet: &[u8], bytes: &[u8]) -> Outcome
+    fn answer(self, sheet: &[u8], bytes: &[u8]) -> Outcome
         ensures { λ r. ⌜ r ≡ outcomeFor (now (sheet .entry)) self (now (bytes .entry)) ⌝ }
     {
         let checked = check_sheet(sheet);
@@ -228,10 +240,10 @@ impl Record {
 
     // One command: the record comes back in the outcome, and the lent tally has one more in one count.
     pub fn command(self, sheet: &[u8], bytes: &[u8], t: &mut Tally) -> Outcome
-        ensures { λ r. ⌜ (r ≡ commandOf (now (sheet .entry)) self (now (t .entry)) (now (bytes .entry)) .outcome) × (now (t .exit) ≡ commandOf (now (sheet .entry)) self (now (t .entry)) (now (bytes .entry)) .tally) ⌝ }
+        ensures { λ r. ⌜ Commanded (now (sheet .entry)) self (now (t .entry)) (now (bytes .entry)) r (now (t .exit)) ⌝ }
     {
         let o = self.answer(sheet, bytes);
-        let which = count_of(o.answer);
+        let which = word_of(o.answer);
         tally::count(t, which);
         o
     }
@@ -239,7 +251,7 @@ impl Record {
 
 // The same with a tally by value, lent to the command and handed back: so that programs run the very call.
 pub fn command_with(r: Record, sheet: &[u8], bytes: &[u8], t: Tally) -> Counted
-    ensures { λ x. ⌜ (x .outcome ≡ commandOf (now (sheet .entry)) r t (now (bytes .entry)) .outcome) × (x .tally ≡ commandOf (now (sheet .entry)) r t (now (bytes .entry)) .tally) ⌝ }
+    ensures { λ x. ⌜ Commanded (now (sheet .entry)) r t (now (bytes .entry)) (x .outcome) (x .tally) ⌝ }
 {
     let mut own = t;
     let o = r.command(sheet, bytes, &mut own);

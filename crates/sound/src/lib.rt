@@ -36,7 +36,7 @@ pub fn line_accepted(sheet: &[u8], m: Marking, f: Firing) -> bool
     ensures { λ r. ⌜ r ≡ accepts (netOf (now (sheet .entry))) (markingOf (basesOf (now (sheet .entry))) m) (asLine (basesOf (now (sheet .entry))) f) ⌝ }
 {
     let n = base_count(sheet) as usize;
-    let t = Transition(f.transition as u16);
+    let t = f.transition_of();
     if enable_refusal(sheet, m, t) != 0 {
         return false;
     }
@@ -58,7 +58,7 @@ fn runs_to(sheet: &[u8], m: Marking, firings: [Firing; MAX_LIVE], live: usize, e
         if !line_accepted(sheet, now_at, f) {
             return false;
         }
-        now_at = fired(sheet, now_at, Transition(f.transition as u16));
+        now_at = fired(sheet, now_at, f.transition_of());
         i += 1;
     }
     let n = base_count(sheet) as usize;

@@ -19,7 +19,7 @@ array-copy-out-f : tie.Need-array-copy-out-f
 array-copy-out-f c = search needs
 
 returns-2 : tie.Need-returns-2
-returns-2 c = rw (ne-eqb _ _ (c .before .if1 .left))
+returns-2 c = rw (ne-eqb _ _ (c .before .before .if1 .left))
 
 pub last-key-spec : {M : Type 1} → statement M
 last-key-spec = tie.close (tie.spec returns sub-f mul-f array-copy-out-f returns-2)

@@ -44,7 +44,7 @@ use denote.Exit.{yes}
 use Rattle.tally.specs.declared.Tally.{Tally}
 use Rattle.tally.proofs.Tally as T
 use Rattle.tally.proofs.Tally.Laws as T′
-use Rattle.session.specs.Commands.{commandOf}
+use Rattle.session.specs.Commands.{Commanded}
 use Rattle.session.specs.declared.Counted.{Counted}
 use Rattle.session.specs.declared.Record.{Record}
 use Rattle.session.specs.declared.Outcome.{Outcome}
@@ -128,7 +128,7 @@ module _ {M : Type 1} (𝓤 : URA M) (H : Heap 𝓤) (A : Atoms 𝓤) (W : Given
 
   -- what the contract says of an outcome and a tally
   abbrev Said : Outcome → Tally → Type 0
-  Said r w = (r ≡ commandOf (now sh) s h (now by′) .outcome) × (w ≡ commandOf (now sh) s h (now by′) .tally)
+  Said r w = Commanded (now sh) s h (now by′) r w
 
   exits : (r : Outcome) (w : Tally) → Is D.the-row (made r w) (valD (made r w) ∷ []) → Said r w
       → ent 𝓤 (⋆ 𝓤 H A ((‵ (flft κ q) ⊛ ‵ (flft κ′ q′) ⊛ ‵ ftrue) ∷ ‵ OwnS ∷ ‵ OwnB ∷ [])) (Post (valD (made r w)))

@@ -17,7 +17,7 @@ use Rattle.sound.proofs.line_accepted.Tie as tie
 
 -- the firing's transition is enabled
 passed : (c : tie.Else1) → clear (enableChecks (netOf (c .before .before .before .before .before .args .sheet .now)) (markingOf (basesOf (c .before .before .before .before .before .args .sheet .now)) (c .before .before .before .before .before .args .m)) (transition (c .before .before .before .before .before .args .f .transition))) ≡ true
-passed c = line-clear (c .before .before .before .before .before .args .sheet .now) (c .before .before .before .before .before .args .m) (c .before .before .before .before .before .args .f) _ (c .before .enable-refusal .ensures) (c .if1 .left)
+passed c = line-clear (c .before .before .before .before .before .args .sheet .now) (c .before .before .before .before .before .args .m) (c .before .before .before .before .before .args .f) _ (rw (c .before .before .transition-of .ensures) at (c .before .enable-refusal .ensures)) (c .if1 .left)
 
 base-count-requires : tie.Need-base-count-requires
 base-count-requires c κs = search needs
@@ -25,23 +25,23 @@ base-count-requires c κs = search needs
 cast-n : tie.Need-cast-n
 cast-n c = search needs
 
-cast-t9 : tie.Need-cast-t9
-cast-t9 c = search needs
+transition-of-requires : tie.Need-transition-of-requires
+transition-of-requires c κs = search needs
 
 enable-refusal-requires : tie.Need-enable-refusal-requires
 enable-refusal-requires c κs = c .before .before .before .pre
 
 returns : tie.Need-returns
-returns c = line-refused (c .before .before .before .before .before .args .sheet .now) (c .before .before .before .before .before .args .m) (c .before .before .before .before .before .args .f) _ (c .before .enable-refusal .ensures) (c .if1 .taken)
+returns c = line-refused (c .before .before .before .before .before .args .sheet .now) (c .before .before .before .before .before .args .m) (c .before .before .before .before .before .args .f) _ (rw (c .before .before .transition-of .ensures) at (c .before .enable-refusal .ensures)) (c .if1 .taken)
 
 moved-by-requires : tie.Need-moved-by-requires
-moved-by-requires c κs = (c .before .before .before .before .before .before .pre, enabled-listed (c .before .before .before .before .before .before .args .sheet .now) (markingOf (basesOf (c .before .before .before .before .before .before .args .sheet .now)) (c .before .before .before .before .before .before .args .m)) (transition (c .before .before .before .before .before .before .args .f .transition)) (passed (c .before)))
+moved-by-requires c κs = (c .before .before .before .before .before .before .pre, rw (c .before .before .before .transition-of .ensures) (enabled-listed (c .before .before .before .before .before .before .args .sheet .now) (markingOf (basesOf (c .before .before .before .before .before .before .args .sheet .now)) (c .before .before .before .before .before .before .args .m)) (transition (c .before .before .before .before .before .before .args .f .transition)) (passed (c .before))))
 
 same-flags-requires : tie.Need-same-flags-requires
 same-flags-requires c κs = let e = c .before .before .before .before .before .base-count .ensures in let h = few-bases _ _ (c .before .before .before .before .before .before .before .pre) in omega arith
 
 returns-2 : tie.Need-returns-2
-returns-2 c = line-same (c .before .before .before .before .before .before .before .before .args .sheet .now) (c .before .before .before .before .before .before .before .before .args .m) (c .before .before .before .before .before .before .before .before .args .f) _ _ _ (passed (c .before .before .before)) (c .before .before .before .before .before .before .base-count .ensures) (c .before .moved-by .ensures) (c .same-flags .ensures)
+returns-2 c = line-same (c .before .before .before .before .before .before .before .before .args .sheet .now) (c .before .before .before .before .before .before .before .before .args .m) (c .before .before .before .before .before .before .before .before .args .f) _ _ _ (passed (c .before .before .before)) (c .before .before .before .before .before .before .base-count .ensures) (rw (c .before .before .before .before .before .transition-of .ensures) at (c .before .moved-by .ensures)) (c .same-flags .ensures)
 
 pub line-accepted-spec : {M : Type 1} → statement M
 line-accepted-spec =
@@ -49,7 +49,7 @@ line-accepted-spec =
     (tie.spec
     base-count-requires
     cast-n
-    cast-t9
+    transition-of-requires
     enable-refusal-requires
     returns
     moved-by-requires

@@ -53,13 +53,13 @@ returns c =
     let at : tie.At-loop Inv-loop μ-loop = c .before .before .before .before in
     run-stops (at .before .before .args .sheet .now) (at .before .before .args .t3) (at .before .before .args .live) (markingOf (basesOf (at .before .before .args .sheet .now)) (at .before .before .args .end)) _ (at .loop .now-at) (at .loop .i) (c .before .before .before .loop-test .taken) (at .loop .inv .4) (sym (c .before .line-accepted .ensures) ∙ not-true _ (c .if1 .taken))
 
-cast-t17 : tie.Need-cast-t17 Inv-loop μ-loop
-cast-t17 c = search needs
+transition-of-requires : tie.Need-transition-of-requires Inv-loop μ-loop
+transition-of-requires c κs = search needs
 
 fired-requires : tie.Need-fired-requires Inv-loop μ-loop
 fired-requires c κs =
     let at : tie.At-loop Inv-loop μ-loop = c .before .before .before .before .before in
-    (at .loop .inv .3, enabled-listed (at .before .before .args .sheet .now) (markingOf (basesOf (at .before .before .args .sheet .now)) (at .loop .now-at)) (transition (getD (at .before .before .args .t3) (at .loop .i) past .transition)) (and-l _ _ (accepted (c .before))))
+    (at .loop .inv .3, rw (c .transition-of .ensures) (enabled-listed (at .before .before .args .sheet .now) (markingOf (basesOf (at .before .before .args .sheet .now)) (at .loop .now-at)) (transition (getD (at .before .before .args .t3) (at .loop .i) past .transition)) (and-l _ _ (accepted (c .before)))))
 
 add-i : tie.Need-add-i Inv-loop μ-loop
 add-i c = search needs
@@ -70,7 +70,7 @@ loop-less c = search needs
 loop-again : tie.Need-loop-again Inv-loop μ-loop
 loop-again c =
     let at : tie.At-loop Inv-loop μ-loop = c .before .before .before .before .before .before in
-    let (P, e) = run-goes (at .before .before .args .sheet .now) (at .before .before .args .t3) (at .before .before .args .live) (markingOf (basesOf (at .before .before .args .sheet .now)) (at .before .before .args .end)) _ (at .loop .now-at) _ (at .loop .i) (c .before .before .before .before .before .loop-test .taken) (at .loop .inv .3) (at .loop .inv .4) (accepted (c .before .before)) (c .fired .ensures) in
+    let (P, e) = run-goes (at .before .before .args .sheet .now) (at .before .before .args .t3) (at .before .before .args .live) (markingOf (basesOf (at .before .before .args .sheet .now)) (at .before .before .args .end)) _ (at .loop .now-at) _ (at .loop .i) (c .before .before .before .before .before .loop-test .taken) (at .loop .inv .3) (at .loop .inv .4) (accepted (c .before .before)) (rw (c .before .transition-of .ensures) at (c .fired .ensures)) in
     (search needs, search needs, search needs, P, e)
 
 base-count-requires : tie.Need-base-count-requires Inv-loop μ-loop
@@ -103,7 +103,7 @@ runs-to-spec =
     array-copy-out-f
     line-accepted-requires
     returns
-    cast-t17
+    transition-of-requires
     fired-requires
     add-i
     loop-less

@@ -46,7 +46,8 @@ use Rattle.tally.proofs.count as count
 use Rattle.tally.proofs.count.Symbol as count-def
 use Rattle.tally.proofs.count.Symbol.{name as #tally·count}
 use Rattle.tally.proofs.count.Met as count-thm
-use Rattle.session.specs.Commands.{countOf, outcomeFor, commandOf}
+use Rattle.session.specs.Commands.{wordOf, answerNumber, outcomeFor, commandOf, Commanded}
+use Rattle.session.proofs.Answers.{answer-number}
 use Rattle.session.specs.declared.Answer.{Answer}
 use Rattle.session.specs.declared.Record.{Record}
 use Rattle.session.specs.declared.Outcome.{Outcome}
@@ -60,10 +61,10 @@ use Rattle.session.proofs.Record.answer as answer
 use Rattle.session.proofs.Record.answer.Symbol as answer-def
 use Rattle.session.proofs.Record.answer.Symbol.{name as #answer}
 use Rattle.session.proofs.Record.answer.Met as answer-thm
-use Rattle.session.proofs.count_of as count-of
-use Rattle.session.proofs.count_of.Symbol as count-of-def
-use Rattle.session.proofs.count_of.Symbol.{name as #count-of}
-use Rattle.session.proofs.count_of.Met as count-of-thm
+use Rattle.session.proofs.word_of as word-of
+use Rattle.session.proofs.word_of.Symbol as word-of-def
+use Rattle.session.proofs.word_of.Symbol.{name as #word-of}
+use Rattle.session.proofs.word_of.Met as word-of-thm
 use Rattle.session.proofs.Record.command.Key.{name as #command}
 use Rattle.session.proofs.Record.command as command
 use Rattle.session.proofs.Record.command.Statement as stated
@@ -83,18 +84,22 @@ abbrev valA : Answer → Val
 valA = EL.val An.the-type An′.the-laws
 
 -- what the contract says, from what the three calls say
-told : (s : Record) (sheet bytes : List ℕ) (h w : Tally) (r : Outcome) (n : ℕ) → r ≡ outcomeFor sheet s bytes → n ≡ countOf (r .answer) → w ≡ countedOf h n
-    → (r ≡ commandOf sheet s h bytes .outcome) × (w ≡ commandOf sheet s h bytes .tally)
+told : (s : Record) (sheet bytes : List ℕ) (h w : Tally) (r : Outcome) (n : ℕ) → r ≡ outcomeFor sheet s bytes → n ≡ wordOf (r .answer) → w ≡ countedOf h n
+    → Commanded sheet s h bytes r w
 unfolding commandOf
-told s sheet bytes h w r n e i e′ = (e, e′ ∙ ap (countedOf h) (i ∙ ap (λ (y : Outcome). countOf (y .answer)) e))
+told s sheet bytes h w r n e i e′ = record {
+  outcome = e;
+  tally = e′ ∙ ap (countedOf h) (i ∙ ap (λ (y : Outcome). wordOf (y .answer)) e);
+  number = ap (λ (y : Outcome). answerNumber (y .answer)) e ∙ answer-number sheet s bytes;
+}
 
 module _ {M : Type 1} (𝓤 : URA M) (H : Heap 𝓤) (A : Atoms 𝓤) (mem : Memory → SProp 𝓤) (run : Routine → Fun 𝓤) where
   -- the contracts that the proof cites
   abbrev Answers : Contract 𝓤
   Answers = tripleOf 𝓤 H A answer.signature (answer.spec 𝓤 H A mem run)
 
-  abbrev CountOf : Contract 𝓤
-  CountOf = tripleOf 𝓤 H A count-of.signature (count-of.spec 𝓤 H A mem run)
+  abbrev WordOf : Contract 𝓤
+  WordOf = tripleOf 𝓤 H A word-of.signature (word-of.spec 𝓤 H A mem run)
 
   abbrev Count : Contract 𝓤
   Count = tripleOf 𝓤 H A count.signature (count.spec 𝓤 H A mem run)
@@ -125,7 +130,7 @@ module _ {M : Type 1} (𝓤 : URA M) (H : Heap 𝓤) (A : Atoms 𝓤) (W : Given
   abbrev OwnB : Fml
   OwnB = ShrSlice (named 1) κ′ u8 .own by′ (bv ∷ [])
 
-  exits : (r : Outcome) (w : Tally) → (r ≡ commandOf (now sh) s h (now by′) .outcome) × (w ≡ commandOf (now sh) s h (now by′) .tally)
+  exits : (r : Outcome) (w : Tally) → Commanded (now sh) s h (now by′) r w
       → ent 𝓤 (⋆ 𝓤 H A ((‵ (flft κ q) ⊛ ‵ (flft κ′ q′) ⊛ ‵ (flft κ″ q″) ⊛ ‵ ftrue) ∷ ‵ OwnS ∷ ‵ OwnB ∷ ‵ (fres γ (T.the-row .coded .code w)) ∷ ‵ (O.the-row .own r (valO r ∷ [])) ∷ [])) (Post (valO r))
   exits r w e =
       qed W ((‵ (flft κ q) ⊛ ‵ (flft κ′ q′) ⊛ ‵ (flft κ″ q″) ⊛ ‵ ftrue) ∷ ‵ OwnS ∷ ‵ OwnB ∷ ‵ (fres γ (T.the-row .coded .code w)) ∷ ‵ (O.the-row .own r (valO r ∷ [])) ∷ []) ∵
@@ -146,16 +151,16 @@ module _ {M : Type 1} (𝓤 : URA M) (H : Heap 𝓤) (A : Atoms 𝓤) (W : Given
   answer-said : (r : Outcome) → ent 𝓤 (ensured 𝓤 H A answer.ended (answer.clauses 𝓤 H A mem run) (κ, (κ′, tt)) (s, (sh, (by′, tt))) tt r) (fact 𝓤 (r ≡ outcomeFor (now sh) s (now by′)))
   answer-said r = exE 𝓤 _ (λ ws. snd∗ 𝓤 (sem 𝓤 H A (lasts answer.ended (κ, (κ′, tt)) (s, (sh, (by′, tt))) ws)) (fact 𝓤 (r ≡ outcomeFor (now sh) s (now by′))))
 
-  -- the call of `count_of`, with the answer a
-  abbrev to-count-of : Answer → CountOf 𝓤 H A mem run .Ghost
-  to-count-of a = ((tt, tt, tt, (a, tt), (valA a ∷ [], tt)), tt)
+  -- the call of `word_of`, with the answer a
+  abbrev to-word-of : Answer → WordOf 𝓤 H A mem run .Ghost
+  to-word-of a = ((tt, tt, tt, (a, tt), (valA a ∷ [], tt)), tt)
 
-  goes-count-of : (a : Answer) → Is An.the-row a (valA a ∷ []) → ent 𝓤 (emp 𝓤) (CountOf 𝓤 H A mem run .pre (to-count-of a))
-  goes-count-of a is-a =
+  goes-word-of : (a : Answer) → Is An.the-row a (valA a ∷ []) → ent 𝓤 (emp 𝓤) (WordOf 𝓤 H A mem run .pre (to-word-of a))
+  goes-word-of a is-a =
       qed W [] ∵ nothing ! $ owned ! An.the-row (Is An.the-row) ((EL.makes An.the-type An′.the-plain) 𝓤 H A) a _ is-a $ fjoin ! $ nothing ! $ join ! $ frame ! $ done !
 
-  count-of-said : (a : Answer) (n : ℕ) → ent 𝓤 (ensured 𝓤 H A count-of.ended (count-of.clauses 𝓤 H A mem run) tt (a, tt) tt n) (fact 𝓤 (n ≡ countOf a))
-  count-of-said a n = exE 𝓤 _ (λ ws. snd∗ 𝓤 (sem 𝓤 H A (lasts count-of.ended tt (a, tt) ws)) (fact 𝓤 (n ≡ countOf a)))
+  word-of-said : (a : Answer) (n : ℕ) → ent 𝓤 (ensured 𝓤 H A word-of.ended (word-of.clauses 𝓤 H A mem run) tt (a, tt) tt n) (fact 𝓤 (n ≡ wordOf a))
+  word-of-said a n = exE 𝓤 _ (λ ws. snd∗ 𝓤 (sem 𝓤 H A (lasts word-of.ended tt (a, tt) ws)) (fact 𝓤 (n ≡ wordOf a)))
 
   -- the call of `count`, with the number n
   abbrev to-count : ℕ → Count 𝓤 H A mem run .Ghost
@@ -166,7 +171,7 @@ module _ {M : Type 1} (𝓤 : URA M) (H : Heap 𝓤) (A : Atoms 𝓤) (W : Given
       qed W (‵ (flft κ″ q″) ∷ ‵ (MutRef (named 2) κ″ T.the-row .own tally (vptr b o ∷ [])) ∷ []) ∵ nothing ! $ move ! (1 ∷ 0 ∷ []) $ join ! $ nothing ! $ owned ! u8 (Is u8) (uint-makes 𝓤 H A W w8) n _ (refl, fits) $ fjoin ! $
       move ! (2 ∷ 0 ∷ []) $ fjoin ! $ move ! (1 ∷ 0 ∷ []) $ join ! $ frame ! $ done !
 
-  module _ (C : Calls 𝓤 H) (Λ : Loops 𝓤 H) (fm : FmC 𝓤 H (W .laws) C) (known-answer : Triple 𝓤 (C #answer) (Answers 𝓤 H A mem run)) (known-count-of : Triple 𝓤 (C #count-of) (CountOf 𝓤 H A mem run)) (known-count : Triple 𝓤 (C #tally·count) (Count 𝓤 H A mem run)) where
+  module _ (C : Calls 𝓤 H) (Λ : Loops 𝓤 H) (fm : FmC 𝓤 H (W .laws) C) (known-answer : Triple 𝓤 (C #answer) (Answers 𝓤 H A mem run)) (known-word-of : Triple 𝓤 (C #word-of) (WordOf 𝓤 H A mem run)) (known-count : Triple 𝓤 (C #tally·count) (Count 𝓤 H A mem run)) where
     walk : Is (ShrSlice (named 0) κ u8) sh (sv ∷ []) → Is (ShrSlice (named 1) κ′ u8) by′ (bv ∷ []) → ent 𝓤 (onEntry 𝓤 H A command.signature (κ, (κ′, (κ″, tt))) (q, (q′, (q″, tt))) x at) (WpFn 𝓤 H C Λ code.function (valR s ∷ sv ∷ bv ∷ vptr b o ∷ []) Post)
     walk is-sh is-by =
         qed W ((‵ (flft κ q) ⊛ ‵ (flft κ′ q′) ⊛ ‵ (flft κ″ q″) ⊛ ‵ ftrue) ∷ ‵ (owns (R.the-row ∷ ShrSlice (named 0) κ u8 ∷ ShrSlice (named 1) κ′ u8 ∷ MutRef (named 2) κ″ T.the-row ∷ []) x at) ∷ []) ∵
@@ -188,11 +193,11 @@ module _ {M : Type 1} (𝓤 : URA M) (H : Heap 𝓤) (A : Atoms 𝓤) (W : Given
         land ! (from ! (stop !)) (init ! 8 refl (LL.lawful O.the-type O′.the-laws 𝓤 H A W .typed r _ is .0)) $
         rewrite ! 8 (λ (y : Val). ‵ (fat fullShare O′.mir l₅ 0 y)) (ap only (LL.tells O.the-type O′.the-laws r _ is)) refl $
         rewrite ! 0 (λ (ys : List Val). ‵ (O.the-row .own r ys)) (LL.tells O.the-type O′.the-laws r _ is) refl $
-        use0 W (raw (CountOf 𝓤 H A mem run .pre (to-count-of (r .answer)))) (goes-count-of (r .answer) (LL.owed O.the-type O′.the-laws r _ is .0)) $
-        -- [what count_of asks; the outcome's (1); the two tokens (2); room for _8 (3); _7 (5); _6 (7); _5 (9); …; room for _0 (19); the sheet's (21); the bytes' (22); what t owns (23); κ″'s token (24)]
-        calls-at ! fm (CountOf 𝓤 H A mem run) known-count-of (to-count-of (r .answer)) (and-then ! (load ! (from ! (fld ! refl (stop !))) (look-in ! 9 (sub ! 0 refl (whole !)))) (no-more !)) (λ v.
-        use1 W (later (some (λ (n : ℕ). (‵ ftrue ⊛ ‵ (u8 .own n (v ∷ []))) ⊛ raw (ensured 𝓤 H A count-of.ended (count-of.clauses 𝓤 H A mem run) tt (r .answer, tt) tt n)))) (id⊢ 𝓤 _) $ await ! tt $ pick ! (λ n.
-        split ! $ move ! (1 ∷ []) $ use1 W (raw (fact 𝓤 (n ≡ countOf (r .answer)))) (count-of-said (r .answer) n) $ heard ! (n ≡ countOf (r .answer)) (λ i. split ! $ drop ! $
+        use0 W (raw (WordOf 𝓤 H A mem run .pre (to-word-of (r .answer)))) (goes-word-of (r .answer) (LL.owed O.the-type O′.the-laws r _ is .0)) $
+        -- [what word_of asks; the outcome's (1); the two tokens (2); room for _8 (3); _7 (5); _6 (7); _5 (9); …; room for _0 (19); the sheet's (21); the bytes' (22); what t owns (23); κ″'s token (24)]
+        calls-at ! fm (WordOf 𝓤 H A mem run) known-word-of (to-word-of (r .answer)) (and-then ! (load ! (from ! (fld ! refl (stop !))) (look-in ! 9 (sub ! 0 refl (whole !)))) (no-more !)) (λ v.
+        use1 W (later (some (λ (n : ℕ). (‵ ftrue ⊛ ‵ (u8 .own n (v ∷ []))) ⊛ raw (ensured 𝓤 H A word-of.ended (word-of.clauses 𝓤 H A mem run) tt (r .answer, tt) tt n)))) (id⊢ 𝓤 _) $ await ! tt $ pick ! (λ n.
+        split ! $ move ! (1 ∷ []) $ use1 W (raw (fact 𝓤 (n ≡ wordOf (r .answer)))) (word-of-said (r .answer) n) $ heard ! (n ≡ wordOf (r .answer)) (λ i. split ! $ drop ! $
         peeks ! u8 (Is u8) (shows 𝓤 H A u8) n (v ∷ []) (λ gn.
         land ! (from ! (stop !)) (init ! 7 refl (uint-lawful 𝓤 H A W w8 .typed n _ gn .0)) $
         rewrite ! 7 (λ (y : Val). ‵ (fat fullShare (tyInt w8) l₆ 0 y)) (ap only (uint-tells w8 n _ gn)) refl $ drop ! $
@@ -211,22 +216,22 @@ module _ {M : Type 1} (𝓤 : URA M) (H : Heap 𝓤) (A : Atoms 𝓤) (W : Given
         move ! (4 ∷ []) $ split ! $ move ! (1 ∷ []) $ split ! $ move ! (0 ∷ 3 ∷ []) $ join ! $ move ! (2 ∷ 0 ∷ []) $ join ! $ keep ! (0 ∷ 5 ∷ 6 ∷ 2 ∷ 4 ∷ []) $ by ! (exits r (ws .0) (told s (now sh) (now by′) h (ws .0) r n e i e′))))))))))))))))))))))))
 
 module _ {M : Type 1} (𝓤 : URA M) (H : Heap 𝓤) (A : Atoms 𝓤) (W : Given 𝓤 H A) (mem : Memory → SProp 𝓤) (run : Routine → Fun 𝓤) where
-  command-walks : (C : Calls 𝓤 H) (Λ : Loops 𝓤 H) → FmC 𝓤 H (W .laws) C → Triple 𝓤 (C #answer) (Answers 𝓤 H A mem run) → Triple 𝓤 (C #count-of) (CountOf 𝓤 H A mem run) → Triple 𝓤 (C #tally·count) (Count 𝓤 H A mem run)
+  command-walks : (C : Calls 𝓤 H) (Λ : Loops 𝓤 H) → FmC 𝓤 H (W .laws) C → Triple 𝓤 (C #answer) (Answers 𝓤 H A mem run) → Triple 𝓤 (C #word-of) (WordOf 𝓤 H A mem run) → Triple 𝓤 (C #tally·count) (Count 𝓤 H A mem run)
       → Walks 𝓤 H A command.ended stayed (WpFn 𝓤 H C Λ code.function) (command.clauses 𝓤 H A mem run)
-  command-walks C Λ fm known-answer known-count-of known-count = walked 𝓤 H A command.ended stayed (command.clauses 𝓤 H A mem run) (WpFn 𝓤 H C Λ code.function)
+  command-walks C Λ fm known-answer known-word-of known-count = walked 𝓤 H A command.ended stayed (command.clauses 𝓤 H A mem run) (WpFn 𝓤 H C Λ code.function)
       (λ κs. (LL.vals R.the-type R′.the-laws, (slice-vals, (slice-vals, (ptr-vals, tt)))))
       (λ κs. (LL.tells R.the-type R′.the-laws, (shr-slice-tells (named 0) (κs .0) u8, (shr-slice-tells (named 1) (κs .1 .0) u8, (mut-tells (named 2) (κs .1 .1 .0) T.the-row, tt)))))
       (λ κs qs bounds a g are. via 𝓤 _ (fst∗ 𝓤 _ (emp 𝓤))
-      (walk 𝓤 H A W mem run (κs .0) (κs .1 .0) (κs .1 .1 .0) (qs .0) (qs .1 .0) (qs .1 .1 .0) (a .0) (a .1 .0) (a .1 .1 .0) (a .1 .1 .1 .0 .ptr .0) (a .1 .1 .1 .0 .ptr .1) (a .1 .1 .1 .0 .name) (a .1 .1 .1 .0 .now) (are .0) C Λ fm known-answer known-count-of known-count (are .1 .0) (are .1 .1 .0)))
+      (walk 𝓤 H A W mem run (κs .0) (κs .1 .0) (κs .1 .1 .0) (qs .0) (qs .1 .0) (qs .1 .1 .0) (a .0) (a .1 .0) (a .1 .1 .0) (a .1 .1 .1 .0 .ptr .0) (a .1 .1 .1 .0 .ptr .1) (a .1 .1 .1 .0 .name) (a .1 .1 .1 .0 .now) (are .0) C Λ fm known-answer known-word-of known-count (are .1 .0) (are .1 .1 .0)))
 
   goes : AllGo 𝓤 H A W 3 (command.signature .params) (command.ended .kept) stayed
   goes = (goes-none 𝓤 H A W 3 (λ _. R.the-row) yes (λ κs x f. refl), (goes-none-slice 𝓤 H A W 3 (0 ∷ []) tt (plain (λ _. u8)) yes, (goes-none-slice 𝓤 H A W 3 (1 ∷ []) tt (plain (λ _. u8)) yes, (goes-gave-ref 𝓤 H A W 3 2 tt (plain (λ _. T.the-row)), tt))))
 
 command-meets : {M : Type 1} (𝓤 : URA M) (H : Heap 𝓤) (A : Atoms 𝓤) (W : Given 𝓤 H A) (mem : Memory → SProp 𝓤) (run : Routine → Fun 𝓤) (𝓣 : Tables 𝓤 H)
-    → Triple 𝓤 (𝓣 .C #answer) (Answers 𝓤 H A mem run) → Triple 𝓤 (𝓣 .C #count-of) (CountOf 𝓤 H A mem run) → Triple 𝓤 (𝓣 .C #tally·count) (Count 𝓤 H A mem run)
+    → Triple 𝓤 (𝓣 .C #answer) (Answers 𝓤 H A mem run) → Triple 𝓤 (𝓣 .C #word-of) (WordOf 𝓤 H A mem run) → Triple 𝓤 (𝓣 .C #tally·count) (Count 𝓤 H A mem run)
     → Meets 𝓤 H A command.signature (WpFn 𝓤 H (𝓣 .C) (𝓣 .Λ) code.function) (command.spec 𝓤 H A mem run)
-command-meets 𝓤 H A W mem run 𝓣 known-answer known-count-of known-count = walk-meets 𝓤 H A command.ended stayed W (goes 𝓤 H A W mem run) (command.clauses 𝓤 H A mem run) (WpFn 𝓤 H (𝓣 .C) (𝓣 .Λ) code.function) (WpFn-mono 𝓤 H (W .laws) 𝓣 code.function)
-    (command-walks 𝓤 H A W mem run (𝓣 .C) (𝓣 .Λ) (fmOf 𝓤 H (W .laws) 𝓣) known-answer known-count-of known-count)
+command-meets 𝓤 H A W mem run 𝓣 known-answer known-word-of known-count = walk-meets 𝓤 H A command.ended stayed W (goes 𝓤 H A W mem run) (command.clauses 𝓤 H A mem run) (WpFn 𝓤 H (𝓣 .C) (𝓣 .Λ) code.function) (WpFn-mono 𝓤 H (W .laws) 𝓣 code.function)
+    (command-walks 𝓤 H A W mem run (𝓣 .C) (𝓣 .Λ) (fmOf 𝓤 H (W .laws) 𝓣) known-answer known-word-of known-count)
 
 pub command-spec : {M : Type 1} → stated.statement M
 unfolding code.routine tablesOf
@@ -235,5 +240,5 @@ command-spec 𝓤 H 𝓜 𝓖 𝓡 =
     (tables 𝓤 H 𝓜 𝓡 code.env .C) (tables 𝓤 H 𝓜 𝓡 code.env .Λ) #command code.function (code.unfolded 𝓤 H 𝓜 𝓡)
     (command-meets 𝓤 H (𝓖 .A) (givenOf 𝓤 H 𝓜 𝓖) (𝓜 .mem) (𝓡 .run) (tablesOf 𝓤 H 𝓜 (tables 𝓤 H 𝓜 𝓡 code.env))
     (cited 𝓤 H (Answers 𝓤 H (𝓖 .A) (𝓜 .mem) (𝓡 .run)) 𝓜 𝓡 code.env #answer answer-def.routine code.calls-session·Record·answer (answer-thm.met 𝓤 H 𝓜 𝓖 𝓡))
-    (cited 𝓤 H (CountOf 𝓤 H (𝓖 .A) (𝓜 .mem) (𝓡 .run)) 𝓜 𝓡 code.env #count-of count-of-def.routine code.calls-session·count-of (count-of-thm.met 𝓤 H 𝓜 𝓖 𝓡))
+    (cited 𝓤 H (WordOf 𝓤 H (𝓖 .A) (𝓜 .mem) (𝓡 .run)) 𝓜 𝓡 code.env #word-of word-of-def.routine code.calls-session·word-of (word-of-thm.met 𝓤 H 𝓜 𝓖 𝓡))
     (cited 𝓤 H (Count 𝓤 H (𝓖 .A) (𝓜 .mem) (𝓡 .run)) 𝓜 𝓡 code.env #tally·count count-def.routine code.calls-tally·count (count-thm.met 𝓤 H 𝓜 𝓖 𝓡)))

@@ -67,7 +67,7 @@ returns-5 c =
     let s : List ℕ = c .before .before .before .before .before .before .before .before .before .before .before .before .args .sheet .now in
     let r : Record = c .before .before .before .before .before .before .before .before .before .before .before .before .args .self in
     let last = c .before .last-key .ensures ∙ last-given (basesOf s) (r .live) (r .firings) (held s r (c .before .before .before .before .before .before .before .before .before .before .before .before .pre) .up) in
-    c .undo2 .ensures ∙ ap (λ (k : ℕ). undoOutcome s r (key k)) last
+    c .undo2 .ensures ∙ ap (undoOutcome s r) last
     ∙ given s r (c .before .before .before .before .before .before .before .before .before .before .before .before .args .bytes .now) (le-ltb _ _ (c .before .before .before .before .before .before .before .before .before .if1 .left)) _ _ _ (c .before .before .before .before .before .before .read .given .1) (c .before .before .before .before .before .before .before .before .decode .ensures) (c .before .before .before .enum-told2 .given .1)
 
 pub perform-spec : {M : Type 1} → statement M

@@ -33,11 +33,11 @@ mul-f c = let h = c .before .before .if1 .left in let k = live-few (c .before .b
 array-copy-out-f : tie.Need-array-copy-out-f
 array-copy-out-f c = let h = c .before .before .if1 .left in let k = live-few (c .before .before .before .before .before .before .before .args .sheet .now) (c .before .before .before .before .before .before .before .args .self) (c .before .before .before .before .before .before .before .pre) in omega arith
 
-cast-t19 : tie.Need-cast-t19
-cast-t19 c = search needs
+transition-of-requires : tie.Need-transition-of-requires
+transition-of-requires c κs = search needs
 
 undone-requires : tie.Need-undone-requires
-undone-requires c κs = (placed (c .before .before .before .before .before .before .before .before .before .before .args .sheet .now) (c .before .before .before .before .before .before .before .before .before .before .args .self) (c .before .before .before .before .before .before .before .before .before .before .pre), listed (c .before .before .before .before .before .before .before .before .before .before .args .sheet .now) (c .before .before .before .before .before .before .before .before .before .before .args .self) (c .before .before .before .before .before .before .before .before .before .before .args .key) (c .before .before .before .before .before .before .before .before .before .before .pre) _ (c .before .before .before .before .before .before .index-of .ensures) (c .before .before .before .before .before .if1 .left))
+undone-requires c κs = (placed (c .before .before .before .before .before .before .before .before .before .before .args .sheet .now) (c .before .before .before .before .before .before .before .before .before .before .args .self) (c .before .before .before .before .before .before .before .before .before .before .pre), rw (c .transition-of .ensures) (listed (c .before .before .before .before .before .before .before .before .before .before .args .sheet .now) (c .before .before .before .before .before .before .before .before .before .before .args .self) (c .before .before .before .before .before .before .before .before .before .before .args .key) (c .before .before .before .before .before .before .before .before .before .before .pre) _ (c .before .before .before .before .before .before .index-of .ensures) (c .before .before .before .before .before .if1 .left)))
 
 closed-up-requires : tie.Need-closed-up-requires
 closed-up-requires c κs = (c .before .before .before .before .before .before .if1 .left, live-few (c .before .before .before .before .before .before .before .before .before .before .before .args .sheet .now) (c .before .before .before .before .before .before .before .before .before .before .before .args .self) (c .before .before .before .before .before .before .before .before .before .before .before .pre))
@@ -46,7 +46,7 @@ sub-t15 : tie.Need-sub-t15
 sub-t15 c = search needs
 
 returns-3 : tie.Need-returns-3
-returns-3 c = done (c .before .before .before .before .before .before .before .before .before .before .before .before .args .sheet .now) (c .before .before .before .before .before .before .before .before .before .before .before .before .args .self) (c .before .before .before .before .before .before .before .before .before .before .before .before .args .key) (c .before .before .before .before .before .before .before .before .before .before .before .before .pre) _ (c .before .before .before .before .before .before .before .before .index-of .ensures) (c .before .before .before .before .before .before .before .if1 .left) (sym (c .before .before .before .before .before .before .built-on .ensures) ∙ c .before .before .before .before .before .if2 .left) _ _ (c .before .undone .ensures) (c .closed-up .ensures)
+returns-3 c = done (c .before .before .before .before .before .before .before .before .before .before .before .before .args .sheet .now) (c .before .before .before .before .before .before .before .before .before .before .before .before .args .self) (c .before .before .before .before .before .before .before .before .before .before .before .before .args .key) (c .before .before .before .before .before .before .before .before .before .before .before .before .pre) _ (c .before .before .before .before .before .before .before .before .index-of .ensures) (c .before .before .before .before .before .before .before .if1 .left) (sym (c .before .before .before .before .before .before .built-on .ensures) ∙ c .before .before .before .before .before .if2 .left) _ _ (rw (c .before .before .transition-of .ensures) at (c .before .undone .ensures)) (c .closed-up .ensures)
 
 pub undo-spec : {M : Type 1} → statement M
 undo-spec =
@@ -60,7 +60,7 @@ undo-spec =
     returns-2
     mul-f
     array-copy-out-f
-    cast-t19
+    transition-of-requires
     undone-requires
     closed-up-requires
     sub-t15
