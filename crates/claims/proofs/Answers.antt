@@ -18,7 +18,7 @@ use Rattle.tally.specs.Counts.{countedOf}
 use Rattle.tally.specs.declared.Tally.{Tally}
 use Rattle.session.specs.declared.Record.{Record}
 use Rattle.session.specs.Records.{heldIn, soundFor}
-use Rattle.session.specs.Commands.{refusal, answerNumber, countOf, outcomeOf, acceptOf, commandChecks, outcomeFor, commandOf}
+use Rattle.session.specs.Commands.{refusal, answerNumber, wordOf, outcomeOf, acceptOf, commandChecks, outcomeFor, commandOf}
 use Rattle.session.specs.declared.Answer.{Answer}
 use Rattle.session.specs.declared.Answer.the-variants.{Fired, Undone, Refused}
 use Rattle.session.specs.declared.Outcome.{Outcome}
@@ -100,7 +100,7 @@ module _ (s : List ℕ) (r : Record) (t : Tally) (c : List ℕ) where
 
   tally-is : (n : ℕ) → commandOf s r t c .outcome ≡ refusal r n → commandOf s r t c ≡ record { outcome = refusal r n; tally = oneMoreRefused t }
   unfolding commandOf countedOf
-  tally-is n e = λ i. record { outcome = e i; tally = countedOf t (countOf (e i .answer)) }
+  tally-is n e = λ i. record { outcome = e i; tally = countedOf t (wordOf (e i .answer)) }
 
   -- none holds exactly where the first number is 0
   none : clear (commandChecks s r c) ≡ eqb (first (commandChecks s r c)) 0

@@ -27,7 +27,7 @@ use Rattle.tally.specs.Counts.{maxCount, oneMore, countedOf, zeroTally}
 use Rattle.tally.specs.declared.Tally.{Tally}
 use Rattle.session.specs.Records.{recordOf}
 use Rattle.session.specs.declared.Record.{Record}
-use Rattle.session.specs.Commands.{answerOf, countOf, commandOf, freshOf}
+use Rattle.session.specs.Commands.{answerOf, wordOf, commandOf, freshOf}
 use Rattle.session.specs.Runs.{Session, runOf}
 use Rattle.session.specs.declared.Outcome.{Outcome}
 use Rattle.session.proofs.Steps.{step, follows-fresh}
@@ -56,7 +56,7 @@ pub record Adds (t : Tally) (j : Journal) (given : ℕ) : Type 0 where
   pub all : t .fired + t .undone + t .refused ≡ given
 
 abbrev counted : Tally → Reply → Tally
-counted t y = countedOf t (countOf (answerOf (y .answer)))
+counted t y = countedOf t (wordOf (answerOf (y .answer)))
 
 module _ (net : Net) (j : Journal) (t : Tally) (k : ℕ) (H : Held net j) (A : Adds t j k) (small : k < maxCount) where
   adds-fired : (c : List ℕ) → Adds (counted t (fireReply net j (transitionNamed c))) (fireReply net j (transitionNamed c) .journal) (k + 1)
@@ -98,7 +98,7 @@ module _ (s : List ℕ) (accepted : clear (sheetChecks s) ≡ true) (ok : netRul
   -- the tally after a command on the record of a journal
   tally-step : (j : Journal) (t : Tally) (c : List ℕ) → Held (netOf s) j → commandOf s (recordOf j) t c .tally ≡ counted t (act (netOf s) j c)
   unfolding commandOf
-  tally-step j t c H = ap (λ (o : Outcome). countedOf t (countOf (o .answer))) (step s accepted ok few j c H)
+  tally-step j t c H = ap (λ (o : Outcome). countedOf t (wordOf (o .answer))) (step s accepted ok few j c H)
 
   session-step : (j : Journal) (t : Tally) (c : List ℕ) → Held (netOf s) j → commandOf s (recordOf j) t c .outcome .session ≡ recordOf (act (netOf s) j c .journal)
   unfolding commandOf

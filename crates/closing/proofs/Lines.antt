@@ -12,7 +12,8 @@ use Rattle.bonds.proofs.Fill.{map-table, table-map}
 use Rattle.text.specs.Decimal.{digits, decimal}
 use Rattle.text.specs.Joined.{joined}
 use Rattle.text.proofs.Digits.{digits-length}
-use Rattle.text.proofs.Writes.{Wrote, written-none, written-more, written-pair}
+use Rattle.text.specs.Writes.{Wrote}
+use Rattle.text.proofs.Writes.{written-none, written-more, written-pair}
 use Rattle.text.proofs.Joined.{joined-length}
 use Rattle.closing.specs.Closing.{item, items, row, bondLine, bondLines, itemRoom, bondRoom}
 

@@ -5,6 +5,7 @@ use mathlib.Core.List.{List, [], _∷_, _++_, map}
 use Rattle.net.specs.declared.Bond.{Bond}
 use Rattle.text.specs.Decimal.{decimal}
 use Rattle.text.specs.Joined.{joined}
+use Rattle.text.specs.Ascii.{ascii}
 
 -- ---- A line of numbers
 
@@ -23,11 +24,11 @@ row word ns = word ++ items ns ++ (10 ∷ [])
 
 -- `places` and every base's place
 abbrev pub placesLine : List ℕ → List ℕ
-placesLine ps = row (112 ∷ 108 ∷ 97 ∷ 99 ∷ 101 ∷ 115 ∷ []) ps
+placesLine ps = row (ascii "places") ps
 
 -- `bond p q`
 abbrev pub bondLine : ℕ → ℕ → List ℕ
-bondLine p q = row (98 ∷ 111 ∷ 110 ∷ 100 ∷ []) (p ∷ q ∷ [])
+bondLine p q = row (ascii "bond") (p ∷ q ∷ [])
 
 -- a line for each bond, in the list's order; no line where there is none
 abbrev pub bondLines : List Bond → List ℕ
@@ -35,11 +36,11 @@ bondLines bs = joined (map (λ (b : Bond). bondLine (b .lo) (b .hi)) bs)
 
 -- `live` and the live serials; the bare word where none is live
 abbrev pub liveLine : List ℕ → List ℕ
-liveLine ks = row (108 ∷ 105 ∷ 118 ∷ 101 ∷ []) ks
+liveLine ks = row (ascii "live") ks
 
 -- `tally` and the counts fired, undone, refused
 abbrev pub tallyLine : ℕ → ℕ → ℕ → List ℕ
-tallyLine fired undone refused = row (116 ∷ 97 ∷ 108 ∷ 108 ∷ 121 ∷ []) (fired ∷ undone ∷ refused ∷ [])
+tallyLine fired undone refused = row (ascii "tally") (fired ∷ undone ∷ refused ∷ [])
 
 -- ---- Room: what a writer asks of the buffer. A number has at most ten digits.
 

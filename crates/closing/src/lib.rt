@@ -1,10 +1,9 @@
 // The closing lines of the exam program into a lent buffer, over plain numbers: places, bonds, live keys, the tally (01, the
 // exam program). Each writer answers where its text ends; the whole output sees to the room.
-ghost use mathlib.Core.Path.{_≡_};
 ghost use Prim.Native.Nat.{_+_, _*_, _≤_};
 ghost use lib.ListN.{length};
-ghost use lib.Seq.{sets};
 ghost use Rattle.bonds.specs.Ends.{bondsIn};
+ghost use Rattle.text.specs.Writes.{Wrote};
 ghost use Rattle.closing.specs.Closing.{item, items, row, placesLine, bondLine, bondLines, liveLine, tallyLine, itemRoom, bondRoom};
 use net::Base;
 use text::put_digits;
@@ -13,7 +12,7 @@ use text::put_word;
 // A space and a number.
 fn put_item(buf: &mut [u8], at: usize, n: u16) -> usize
     requires { ⌜ at + itemRoom ≤ length (now buf) ⌝ }
-    ensures { λ r. ⌜ (r ≡ at + length (item n)) × (now (buf .exit) ≡ sets (now (buf .entry)) at (item n)) ⌝ }
+    ensures { λ r. ⌜ Wrote (item n) at (now (buf .entry)) r (now (buf .exit)) ⌝ }
 {
     let a = put_word(buf, at, b" ");
     put_digits(buf, a, n as u32, 10)
@@ -22,7 +21,7 @@ fn put_item(buf: &mut [u8], at: usize, n: u16) -> usize
 // All numbers of a list.
 fn put_items(buf: &mut [u8], at: usize, ns: &[u16]) -> usize
     requires { ⌜ at + itemRoom * length (now ns) ≤ length (now buf) ⌝ }
-    ensures { λ r. ⌜ (r ≡ at + length (items (now (ns .entry)))) × (now (buf .exit) ≡ sets (now (buf .entry)) at (items (now (ns .entry)))) ⌝ }
+    ensures { λ r. ⌜ Wrote (items (now (ns .entry))) at (now (buf .entry)) r (now (buf .exit)) ⌝ }
 {
     let mut pos = at;
     let mut i = 0;
@@ -36,7 +35,7 @@ fn put_items(buf: &mut [u8], at: usize, ns: &[u16]) -> usize
 // A line: a word, the numbers, a newline.
 fn put_row(buf: &mut [u8], at: usize, word: &[u8], ns: &[u16]) -> usize
     requires { ⌜ at + length (now word) + itemRoom * length (now ns) + 1 ≤ length (now buf) ⌝ }
-    ensures { λ r. ⌜ (r ≡ at + length (row (now (word .entry)) (now (ns .entry)))) × (now (buf .exit) ≡ sets (now (buf .entry)) at (row (now (word .entry)) (now (ns .entry)))) ⌝ }
+    ensures { λ r. ⌜ Wrote (row (now (word .entry)) (now (ns .entry))) at (now (buf .entry)) r (now (buf .exit)) ⌝ }
 {
     let a = put_word(buf, at, word);
     let b = put_items(buf, a, ns);
@@ -46,7 +45,7 @@ fn put_row(buf: &mut [u8], at: usize, word: &[u8], ns: &[u16]) -> usize
 // `places` and the place of every base.
 pub fn put_places(buf: &mut [u8], at: usize, places: &[u16]) -> usize
     requires { ⌜ at + 7 + itemRoom * length (now places) ≤ length (now buf) ⌝ }
-    ensures { λ r. ⌜ (r ≡ at + length (placesLine (now (places .entry)))) × (now (buf .exit) ≡ sets (now (buf .entry)) at (placesLine (now (places .entry)))) ⌝ }
+    ensures { λ r. ⌜ Wrote (placesLine (now (places .entry))) at (now (buf .entry)) r (now (buf .exit)) ⌝ }
 {
     put_row(buf, at, b"places", places)
 }
@@ -54,7 +53,7 @@ pub fn put_places(buf: &mut [u8], at: usize, places: &[u16]) -> usize
 // `bond` and its two bases.
 fn put_bond(buf: &mut [u8], at: usize, lo: Base, hi: Base) -> usize
     requires { ⌜ at + bondRoom ≤ length (now buf) ⌝ }
-    ensures { λ r. ⌜ (r ≡ at + length (bondLine lo hi)) × (now (buf .exit) ≡ sets (now (buf .entry)) at (bondLine lo hi)) ⌝ }
+    ensures { λ r. ⌜ Wrote (bondLine lo hi) at (now (buf .entry)) r (now (buf .exit)) ⌝ }
 {
     let ends = [lo as u16, hi as u16];
     put_row(buf, at, b"bond", &ends)
@@ -63,7 +62,7 @@ fn put_bond(buf: &mut [u8], at: usize, lo: Base, hi: Base) -> usize
 // A line for each of the first n bonds, in their order.
 pub fn put_bonds(buf: &mut [u8], at: usize, lo: &[Base], hi: &[Base], n: usize) -> usize
     requires { ⌜ (at + bondRoom * n ≤ length (now buf)) × (n ≤ length (now lo)) × (n ≤ length (now hi)) ⌝ }
-    ensures { λ r. ⌜ (r ≡ at + length (bondLines (bondsIn (now (lo .entry)) (now (hi .entry)) n))) × (now (buf .exit) ≡ sets (now (buf .entry)) at (bondLines (bondsIn (now (lo .entry)) (now (hi .entry)) n))) ⌝ }
+    ensures { λ r. ⌜ Wrote (bondLines (bondsIn (now (lo .entry)) (now (hi .entry)) n)) at (now (buf .entry)) r (now (buf .exit)) ⌝ }
 {
     let mut pos = at;
     let mut i = 0;
@@ -77,7 +76,7 @@ pub fn put_bonds(buf: &mut [u8], at: usize, lo: &[Base], hi: &[Base], n: usize) 
 // `live` and the live keys.
 pub fn put_live(buf: &mut [u8], at: usize, keys: &[u16]) -> usize
     requires { ⌜ at + 5 + itemRoom * length (now keys) ≤ length (now buf) ⌝ }
-    ensures { λ r. ⌜ (r ≡ at + length (liveLine (now (keys .entry)))) × (now (buf .exit) ≡ sets (now (buf .entry)) at (liveLine (now (keys .entry)))) ⌝ }
+    ensures { λ r. ⌜ Wrote (liveLine (now (keys .entry))) at (now (buf .entry)) r (now (buf .exit)) ⌝ }
 {
     put_row(buf, at, b"live", keys)
 }
@@ -85,7 +84,7 @@ pub fn put_live(buf: &mut [u8], at: usize, keys: &[u16]) -> usize
 // `tally` and the three counts.
 pub fn put_tally(buf: &mut [u8], at: usize, fired: u16, undone: u16, refused: u16) -> usize
     requires { ⌜ at + 6 + itemRoom * 3 ≤ length (now buf) ⌝ }
-    ensures { λ r. ⌜ (r ≡ at + length (tallyLine fired undone refused)) × (now (buf .exit) ≡ sets (now (buf .entry)) at (tallyLine fired undone refused)) ⌝ }
+    ensures { λ r. ⌜ Wrote (tallyLine fired undone refused) at (now (buf .entry)) r (now (buf .exit)) ⌝ }
 {
     let counts = [fired, undone, refused];
     put_row(buf, at, b"tally", &counts)

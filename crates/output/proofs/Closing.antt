@@ -16,7 +16,8 @@ use Rattle.firings.specs.Lines.{past, asLine, linesIn}
 use Rattle.firings.specs.declared.Firing.{Firing}
 use Rattle.sound.specs.Soundness.{journalIn}
 use Rattle.tally.specs.declared.Tally.{Tally}
-use Rattle.text.proofs.Writes.{Wrote, written-none, written-more, written-pair}
+use Rattle.text.specs.Writes.{Wrote}
+use Rattle.text.proofs.Writes.{written-none, written-more, written-pair}
 use Rattle.closing.specs.Closing.{itemRoom, bondRoom, placesLine, bondLines, liveLine, tallyLine}
 use Rattle.closing.proofs.Lines.{row-length, bonds-table, bonds-upto}
 use Rattle.output.specs.Output.{keysLive, closingOf}

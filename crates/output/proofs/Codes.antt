@@ -16,7 +16,8 @@ use Rattle.net.proofs.Tests.{and-l, and-r}
 use Rattle.net.proofs.Tables.{table-cong}
 use Rattle.text.specs.Decimal.{digits, decimal}
 use Rattle.text.specs.Joined.{joined}
-use Rattle.text.proofs.Writes.{Wrote, written-none, written-more}
+use Rattle.text.specs.Writes.{Wrote}
+use Rattle.text.proofs.Writes.{written-none, written-more}
 use Rattle.session.specs.Runs.{Answered}
 use Rattle.session.specs.declared.Answer.{Answer}
 use Rattle.session.specs.declared.Answer.the-variants.{Fired, Undone, Refused}

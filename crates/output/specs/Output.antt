@@ -14,6 +14,7 @@ use Rattle.sheet.specs.Checks.{sheetChecks}
 use Rattle.tally.specs.Counts.{countedOf, zeroTally}
 use Rattle.tally.specs.declared.Tally.{Tally}
 use Rattle.text.specs.Decimal.{decimal}
+use Rattle.text.specs.Ascii.{ascii}
 use Rattle.closing.specs.Closing.{placesLine, bondLines, liveLine, tallyLine}
 use Rattle.session.specs.Commands.{answerOf, keyOf, countOf}
 use Rattle.runs.specs.Lists.{commandsIn}
@@ -37,7 +38,7 @@ commandBytes input = take (3 * maxCommands) (drop (2 + wordAt input 0) input)
 
 -- `sheet refused ` and the number
 abbrev pub sheetRefused : List ℕ
-sheetRefused = 115 ∷ 104 ∷ 101 ∷ 101 ∷ 116 ∷ 32 ∷ 114 ∷ 101 ∷ 102 ∷ 117 ∷ 115 ∷ 101 ∷ 100 ∷ 32 ∷ []
+sheetRefused = ascii "sheet refused "
 
 unfoldable pub refusedSheet : ℕ → List ℕ
 refusedSheet n = sheetRefused ++ decimal n ++ (10 ∷ [])

@@ -1,6 +1,6 @@
 -- Laws of the line's pieces: how long they are, and that they make the line.
 -- Assumes nothing.
-use mathlib.Core.Path.{_≡_, refl, _∙_}
+use mathlib.Core.Path.{_≡_, refl, _∙_, subst}
 use Prim.Native.Nat.{ℕ, _+_, _≤_, _<_}
 use native.Mathlib.Omega.{arith}
 use native.Mathlib.Nat.{zero-add}
@@ -8,34 +8,37 @@ use mathlib.Core.Bool.{Bool, true, false}
 use mathlib.Core.List.{List, [], _∷_}
 use lib.Dec.{eqb}
 use lib.ListN.{length}
-use lib.Seq.{sets}
 use borrow.Author.Tests.{lt-ltb, le-ltb, eq-eqb, ne-eqb, eqb-true, eqb-false}
-use Rattle.net.specs.declared.Key.{Key}
 use Rattle.text.specs.Decimal.{digits, decimal}
-use Rattle.text.proofs.Writes.{Wrote, written-none, written-more, written-pair}
+use Rattle.text.specs.Writes.{Wrote, Filled}
+use Rattle.text.proofs.Writes.{written-none, written-more, written-pair}
+use Rattle.text.specs.Ascii.{ascii}
+use Rattle.net.specs.declared.Key.{Key}
+use Rattle.session.specs.Commands.{wordOf, valueOf, valueBound}
 use Rattle.session.specs.declared.Answer.{Answer}
-use Rattle.report.specs.Lines.{fired, undone, refused, wordOf, answerLine, lineOf, valueLimit}
+use Rattle.session.specs.declared.Answer.the-variants.{Fired, Undone, Refused}
+use Rattle.report.specs.Lines.{wordText, answerLine, toldLine, valueLimit}
 use Rattle.report.proofs.Places.{digits-few, decimal-five}
 
 -- ---- One word at a time
 
-pub word-fired : (w : ℕ) → w ≡ 0 → wordOf w ≡ fired
-unfolding wordOf
+pub word-fired : (w : ℕ) → w ≡ 0 → wordText w ≡ ascii " fired "
+unfolding wordText
 word-fired w e = rw (eq-eqb w 0 e)
 
-pub word-undone : (w : ℕ) → (w ≡ 0 → ⊥) → w ≡ 1 → wordOf w ≡ undone
-unfolding wordOf
+pub word-undone : (w : ℕ) → (w ≡ 0 → ⊥) → w ≡ 1 → wordText w ≡ ascii " undone "
+unfolding wordText
 word-undone w h e = rw (ne-eqb w 0 h, eq-eqb w 1 e)
 
-pub word-refused : (w : ℕ) → (w ≡ 0 → ⊥) → (w ≡ 1 → ⊥) → wordOf w ≡ refused
-unfolding wordOf
+pub word-refused : (w : ℕ) → (w ≡ 0 → ⊥) → (w ≡ 1 → ⊥) → wordText w ≡ ascii " refused "
+unfolding wordText
 word-refused w h k = rw (ne-eqb w 0 h, ne-eqb w 1 k)
 
 -- ---- Lengths
 
 -- a word and a value below its limit need no more than thirteen bytes
 abbrev Room : ℕ → ℕ → Type 0
-Room w v = (length (wordOf w) ≤ 9) × (v < 100000) × (length (wordOf w) + length (digits 5 v) ≤ 13)
+Room w v = (length (wordText w) ≤ 9) × (v < 100000) × (length (wordText w) + length (digits 5 v) ≤ 13)
 
 module _ (w v : ℕ) (h : v < valueLimit w) where
   room-refused : (w ≡ 0 → ⊥) → (w ≡ 1 → ⊥) → Room w v
@@ -70,17 +73,23 @@ module _ (w v : ℕ) (h : v < valueLimit w) where
 -- ---- The whole
 
 -- the four writers, one after the other, leave the line
-pub pieces : (b : List ℕ) {b₁ b₂ b₃ b₄ : List ℕ} (at : ℕ) {k₁ k₂ k₃ k₄ : ℕ} (n w v : ℕ) → v < 100000 → Wrote (digits 10 n) at b k₁ b₁ → Wrote (wordOf w) k₁ b₁ k₂ b₂ → Wrote (digits 5 v) k₂ b₂ k₃ b₃ → Wrote (10 ∷ []) k₃ b₃ k₄ b₄ → Wrote (answerLine n w v) at b k₄ b₄
+pub pieces : (b : List ℕ) {b₁ b₂ b₃ b₄ : List ℕ} (at : ℕ) {k₁ k₂ k₃ k₄ : ℕ} (n w v : ℕ) → v < 100000 → Wrote (digits 10 n) at b k₁ b₁ → Wrote (wordText w) k₁ b₁ k₂ b₂ → Wrote (digits 5 v) k₂ b₂ k₃ b₃ → Wrote (10 ∷ []) k₃ b₃ k₄ b₄ → Wrote (answerLine n w v) at b k₄ b₄
 unfolding answerLine decimal
 pieces b at n w v h w₁ w₂ w₃ w₄ =
-    let all = written-more (10 ∷ []) (written-more (digits 5 v) (written-more (wordOf w) (written-more (digits 10 n) (written-none b at) w₁) w₂) w₃) w₄ in
+    let all = written-more (10 ∷ []) (written-more (digits 5 v) (written-more (wordText w) (written-more (digits 10 n) (written-none b at) w₁) w₂) w₃) w₄ in
     let t : digits 5 v ≡ digits 10 v = decimal-five v h in
     rw (← t) (written-pair all)
 
 -- ---- The answer
 
--- what was written from byte 0 on for x was written for an answer that is x
-pub told : (b : List ℕ) {b′ : List ℕ} {r : ℕ} (n : ℕ) (k : Key) {a : Answer} (x : Answer) → a ≡ x → Wrote (lineOf n x k) 0 b r b′ → (r ≡ length (lineOf n a k)) × (b′ ≡ sets b 0 (lineOf n a k))
-told b n k {a} x e w =
-    let z : 0 + length (lineOf n x k) ≡ length (lineOf n x k) = zero-add (length (lineOf n x k)) in
-    rw e (w .0 ∙ z, w .1)
+-- what is known of an answer's value is what its line asks
+pub value-low : (a : Answer) (v : ℕ) → v < valueBound a → v < valueLimit (wordOf a)
+value-low Fired v h = h
+value-low Undone v h = h
+value-low (Refused n) v h = omega (arith, h)
+
+-- what was written from byte 0 on for its word and its value is the answer's line
+pub told : (b : List ℕ) {b′ : List ℕ} {r : ℕ} (n w v : ℕ) (a : Answer) (k : Key) → w ≡ wordOf a → v ≡ valueOf a k → Wrote (answerLine n w v) 0 b r b′ → Filled (toldLine n a k) b r b′
+told b {b′} {r} n w v a k ew ev all =
+    let e : answerLine n w v ≡ toldLine n a k = λ i. answerLine n (ew i) (ev i) in
+    subst (λ (ws : List ℕ). Filled ws b r b′) e (all .0 ∙ zero-add (length (answerLine n w v)), all .1)

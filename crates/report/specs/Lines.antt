@@ -1,44 +1,33 @@
 -- The answer line and the buffer that it is written into (01, the exam program).
 -- Definitions only.
 use Prim.Native.Nat.{ℕ}
-use mathlib.Core.List.{List, [], _∷_, _++_}
+use mathlib.Core.List.{List, _++_}
 use lib.Dec.{ltb, eqb}
 use lib.ListN.{length}
 use lib.Seq.{sets}
 use Rattle.net.specs.Tests.{pick}
 use Rattle.net.specs.declared.Key.{Key}
 use Rattle.text.specs.Decimal.{decimal}
+use Rattle.text.specs.Ascii.{ascii}
+use Rattle.session.specs.Commands.{wordOf, valueOf}
 use Rattle.session.specs.declared.Answer.{Answer}
-use Rattle.session.specs.declared.Answer.the-variants.{Fired, Undone, Refused}
 use Rattle.report.specs.declared.Written.{Written}
 
 -- ---- The line
 
--- ` fired `, ` undone ` and ` refused `, each with the space before it and the space after it
-abbrev pub fired : List ℕ
-fired = 32 ∷ 102 ∷ 105 ∷ 114 ∷ 101 ∷ 100 ∷ 32 ∷ []
-
-abbrev pub undone : List ℕ
-undone = 32 ∷ 117 ∷ 110 ∷ 100 ∷ 111 ∷ 110 ∷ 101 ∷ 32 ∷ []
-
-abbrev pub refused : List ℕ
-refused = 32 ∷ 114 ∷ 101 ∷ 102 ∷ 117 ∷ 115 ∷ 101 ∷ 100 ∷ 32 ∷ []
-
--- by the word's number: 0 is fired, 1 is undone, any other is refused
-unfoldable pub wordOf : ℕ → List ℕ
-wordOf word = pick (eqb word 0) fired (pick (eqb word 1) undone refused)
+-- a word as text, with the space before it and the space after it: 0 is fired, 1 is undone, any other is refused
+unfoldable pub wordText : ℕ → List ℕ
+wordText word = pick (eqb word 0) (ascii " fired ") (pick (eqb word 1) (ascii " undone ") (ascii " refused "))
 
 -- the command's number, the word, the value, and the newline
 unfoldable pub answerLine : ℕ → ℕ → ℕ → List ℕ
-answerLine number word value = decimal number ++ wordOf word ++ decimal value ++ (10 ∷ [])
+answerLine number word value = decimal number ++ wordText word ++ decimal value ++ ascii "\n"
 
 -- the line of an answer: fired and undone tell the serial, refused tells the refusal's number
-abbrev pub lineOf : ℕ → Answer → Key → List ℕ
-lineOf number Fired k = answerLine number 0 (k .0)
-lineOf number Undone k = answerLine number 1 (k .0)
-lineOf number (Refused n) k = answerLine number 2 n
+abbrev pub toldLine : ℕ → Answer → Key → List ℕ
+toldLine number a k = answerLine number (wordOf a) (valueOf a k)
 
--- the values that a line has room for, by the word's number: a serial has 16 bits, a refusal's number at most three digits
+-- the values that a line has room for, by the word: a serial has 16 bits, a refusal's number at most three digits
 abbrev pub valueLimit : ℕ → ℕ
 valueLimit word = pick (ltb word 2) 65536 1000
 
@@ -53,8 +42,8 @@ lineRefusal n = pick (ltb n minLine) 22 0
 
 -- what a buffer of n bytes is answered
 unfoldable pub writtenOf : ℕ → ℕ → Answer → Key → Written
-writtenOf n number a k = record { refusal = lineRefusal n; length = pick (ltb n minLine) 0 (length (lineOf number a k)) }
+writtenOf n number a k = record { refusal = lineRefusal n; length = pick (ltb n minLine) 0 (length (toldLine number a k)) }
 
 -- what a buffer then holds: what it held, or the line from byte 0 on and behind it what it held
 unfoldable pub bufferOf : List ℕ → ℕ → Answer → Key → List ℕ
-bufferOf b number a k = pick (ltb (length b) minLine) b (sets b 0 (lineOf number a k))
+bufferOf b number a k = pick (ltb (length b) minLine) b (sets b 0 (toldLine number a k))

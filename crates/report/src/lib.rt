@@ -3,10 +3,12 @@
 ghost use mathlib.Core.Path.{_≡_};
 ghost use Prim.Native.Nat.{_+_, _≤_, _<_};
 ghost use lib.ListN.{length};
-ghost use lib.Seq.{sets};
-ghost use Rattle.report.specs.Lines.{wordOf, answerLine, lineOf, valueLimit, minLine, writtenOf, bufferOf};
+ghost use Rattle.text.specs.Writes.{Wrote};
+ghost use Rattle.report.specs.Lines.{wordText, answerLine, valueLimit, minLine, writtenOf, bufferOf};
 use net::Key;
 use session::Answer;
+use session::value_of;
+use session::word_of;
 use text::put_digits;
 use text::put_word;
 
@@ -19,11 +21,10 @@ pub struct Written {
     pub length: usize,
 }
 
-// The word by its number, with a space on either side: 0 is fired, 1 is undone, any other is refused. `put_line` sees to
-// the room.
-pub fn put_answer(buf: &mut [u8], at: usize, word: u8) -> usize
+// The word with a space on either side: 0 is fired, 1 is undone, any other is refused. `put_line` sees to the room.
+fn put_answer(buf: &mut [u8], at: usize, word: u8) -> usize
     requires { ⌜ at + 9 ≤ length (now buf) ⌝ }
-    ensures { λ r. ⌜ (r ≡ at + length (wordOf word)) × (now (buf .exit) ≡ sets (now (buf .entry)) at (wordOf word)) ⌝ }
+    ensures { λ r. ⌜ Wrote (wordText word) at (now (buf .entry)) r (now (buf .exit)) ⌝ }
 {
     if word == 0 {
         return put_word(buf, at, b" fired ");
@@ -34,11 +35,12 @@ pub fn put_answer(buf: &mut [u8], at: usize, word: u8) -> usize
     put_word(buf, at, b" refused ")
 }
 
-// The line, from `at` on. Answers where it ends. `answer_line` and the whole output see to the room, `put_answer_line` and
-// the whole output to the value: a refusal's number has at most three digits (01, the exam program).
+// The line, from `at` on. Answers where it ends. `answer_line` and the whole output see to the room and to the value: a
+// refusal's number has at most three digits (01, the exam program).
 pub fn put_line(buf: &mut [u8], at: usize, number: u32, word: u8, value: u16) -> usize
     requires { ⌜ (at + minLine ≤ length (now buf)) × (value < valueLimit word) ⌝ }
-    ensures { λ r. ⌜ (r ≡ at + length (answerLine number word value)) × (now (buf .exit) ≡ sets (now (buf .entry)) at (answerLine number word value)) ⌝ }
+    ensures { λ r. ⌜ Wrote (answerLine number word value) at (now (buf .entry)) r (now (buf .exit)) ⌝ }
+    ensures { λ r. ⌜ r ≤ at + minLine ⌝ }
 {
     let a = put_digits(buf, at, number, 10);
     let b = put_answer(buf, a, word);
@@ -46,23 +48,12 @@ pub fn put_line(buf: &mut [u8], at: usize, number: u32, word: u8, value: u16) ->
     put_word(buf, e, b"\n")
 }
 
-// The line of an answer: fired and undone with the serial, refused with the refusal's number, for which the key is not read
-// (01, the exam program). `answer_line` sees to the buffer's length.
-fn put_answer_line(buf: &mut [u8], number: u32, answer: Answer, key: Key) -> usize
-    requires { ⌜ minLine ≤ length (now buf) ⌝ }
-    ensures { λ r. ⌜ (r ≡ length (lineOf number answer key)) × (now (buf .exit) ≡ sets (now (buf .entry)) 0 (lineOf number answer key)) ⌝ }
-{
-    match answer {
-        Answer::Fired => put_line(buf, 0, number, 0, key.0),
-        Answer::Undone => put_line(buf, 0, number, 1, key.0),
-        Answer::Refused(n) => put_line(buf, 0, number, 2, n as u16),
-    }
-}
-
 // The answer line of a command, for any answer and any buffer. A buffer that is too short is refused by 22 and stays as it
-// was; else the line stands from byte 0 on and the rest is untouched (01, the exam program).
+// was; else the line stands from byte 0 on and the rest is untouched (01, the exam program). Where the answer is refused the
+// key is not read.
 pub fn answer_line(buf: &mut [u8], number: u32, answer: Answer, key: Key) -> Written
-    ensures { λ r. ⌜ (r ≡ writtenOf (length (now (buf .entry))) number answer key) × (now (buf .exit) ≡ bufferOf (now (buf .entry)) number answer key) ⌝ }
+    ensures { λ r. ⌜ r ≡ writtenOf (length (now (buf .entry))) number answer key ⌝ }
+    ensures { λ r. ⌜ now (buf .exit) ≡ bufferOf (now (buf .entry)) number answer key ⌝ }
 {
     if buf.len() < MIN_LINE {
         return Written {
@@ -70,7 +61,9 @@ pub fn answer_line(buf: &mut [u8], number: u32, answer: Answer, key: Key) -> Wri
             length: 0,
         };
     }
-    let end = put_answer_line(buf, number, answer, key);
+    let word = word_of(answer);
+    let value = value_of(answer, key);
+    let end = put_line(buf, 0, number, word, value);
     Written {
         refusal: 0,
         length: end,

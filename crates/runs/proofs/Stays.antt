@@ -9,12 +9,12 @@ use Rattle.format.specs.NetOf.{netOf}
 use Rattle.tally.specs.Counts.{countedOf}
 use Rattle.tally.specs.declared.Tally.{Tally}
 use Rattle.session.specs.Records.{heldIn, recordOf, Sound}
-use Rattle.session.specs.Commands.{countOf, outcomeOf, performOf, outcomeFor, commandOf}
+use Rattle.session.specs.Commands.{wordOf, valueOf, outcomeOf, performOf, outcomeFor, commandOf}
 use Rattle.session.specs.declared.Record.{Record}
 use Rattle.session.specs.declared.Outcome.{Outcome}
 use Rattle.session.proofs.Steps.{sound-performs, held-back, held-soundFor, step}
 use Rattle.session.proofs.Sounds.{rule, few, held}
-use Rattle.runs.specs.Lists.{codeOf, steppedOf}
+use Rattle.runs.specs.Lists.{steppedOf}
 use Rattle.runs.specs.declared.Stepped.{Stepped}
 
 module _ (s : List ℕ) (r : Record) (S : Sound s r) where
@@ -49,11 +49,12 @@ module _ (s : List ℕ) (r : Record) (S : Sound s r) where
 
   -- one command, counted, is the command of the definition
   pub stepped : (t : Tally) (c : List ℕ) (o : Outcome) → o ≡ performOf s r c
-      → (which : ℕ) → which ≡ countOf (o .answer) → (code : ℕ) → code ≡ codeOf (o .answer) → (next : Tally) → next ≡ countedOf t which
-      → record { session = o .session; tally = next; code = code; key = o .key .0 } ≡ steppedOf (commandOf s r t c)
+      → (word : ℕ) → word ≡ wordOf (o .answer) → (value : ℕ) → value ≡ valueOf (o .answer) (o .key) → (next : Tally) → next ≡ countedOf t word
+      → record { session = o .session; tally = next; word = word; value = value } ≡ steppedOf (commandOf s r t c)
   unfolding commandOf
-  stepped t c o e which w code k next n =
+  stepped t c o e word w value v next n =
       let q : o ≡ outcomeFor s r c = e ∙ performs c in
-      let n′ : next ≡ countedOf t (countOf (outcomeFor s r c .answer)) = n ∙ ap (countedOf t) (w ∙ ap (λ (x : Outcome). countOf (x .answer)) q) in
-      let k′ : code ≡ codeOf (outcomeFor s r c .answer) = k ∙ ap (λ (x : Outcome). codeOf (x .answer)) q in
-      λ i. record { session = q i .session; tally = n′ i; code = k′ i; key = q i .key .0 }
+      let w′ : word ≡ wordOf (outcomeFor s r c .answer) = w ∙ ap (λ (x : Outcome). wordOf (x .answer)) q in
+      let v′ : value ≡ valueOf (outcomeFor s r c .answer) (outcomeFor s r c .key) = v ∙ ap (λ (x : Outcome). valueOf (x .answer) (x .key)) q in
+      let n′ : next ≡ countedOf t (wordOf (outcomeFor s r c .answer)) = n ∙ ap (countedOf t) w′ in
+      λ i. record { session = q i .session; tally = n′ i; word = w′ i; value = v′ i }

@@ -1,6 +1,6 @@
 -- The fold over a list of commands, one command more at a time, as a loop over a position does it.
 -- Assumes nothing.
-use mathlib.Core.Path.{_≡_, refl, sym, _∙_, ap}
+use mathlib.Core.Path.{_≡_, refl, sym, _∙_, ap, subst}
 use mathlib.Core.List.{List, [], _∷_, _++_, map}
 use Prim.Native.Nat.{ℕ, suc, _+_, _-_, _<_, _≤_}
 use native.Mathlib.Nat.{zero-add}
@@ -13,11 +13,11 @@ use Rattle.text.proofs.Writes.{sets-snoc}
 use Rattle.tally.specs.declared.Tally.{Tally}
 use Rattle.session.specs.declared.Record.{Record}
 use Rattle.session.specs.Records.{Sound}
-use Rattle.session.specs.Commands.{Result, commandOf}
+use Rattle.session.specs.Commands.{wordOf, valueOf, Result, commandOf}
 use Rattle.session.specs.Runs.{Answered, Session, runOf}
 use Rattle.runs.proofs.Stays.{command-sound}
 use Rattle.runs.specs.declared.Stepped.{Stepped}
-use Rattle.runs.specs.Lists.{howMany, commandAt, commandsIn, codeOf, codesOf, keysOf, steppedOf, ranTo, ranOf}
+use Rattle.runs.specs.Lists.{howMany, commandAt, commandsIn, wordsOf, valuesOf, steppedOf, ranTo, ranOf, RunGives}
 
 -- the answer that a list of them keeps
 abbrev kept : Result → Answered
@@ -83,13 +83,6 @@ no-part b at most h =
 
 -- ---- the run to a position
 
--- What a loop has in hand before command i: the record, the tally, and the two slices.
-pub record Upto (s b : List ℕ) (r : Record) (t : Tally) (codes₀ keys₀ : List ℕ) (i : ℕ) (session : Record) (tally : Tally) (codes keys : List ℕ) : Type 0 where
-  pub session-is : session ≡ ranTo s b r t i .session
-  pub tally-is : tally ≡ ranTo s b r t i .tally
-  pub codes-are : codes ≡ sets codes₀ 0 (codesOf (ranTo s b r t i))
-  pub keys-are : keys ≡ sets keys₀ 0 (keysOf (ranTo s b r t i))
-
 module _ (s b : List ℕ) (r : Record) (t : Tally) where
   to-more : (i : ℕ) → ranTo s b r t (i + 1) ≡ more s (ranTo s b r t i) (commandAt b i)
   unfolding ranTo
@@ -103,16 +96,20 @@ module _ (s b : List ℕ) (r : Record) (t : Tally) where
   unfolding ranTo ranOf
   to-all = refl
 
-  module _ (codes₀ keys₀ : List ℕ) where
-    pub upto-none : Upto s b r t codes₀ keys₀ 0 r t codes₀ keys₀
+  -- what a loop has in hand before command i: the record, the tally, and the two lists
+  abbrev pub Upto : List ℕ → List ℕ → ℕ → Record → Tally → List ℕ → List ℕ → Type 0
+  Upto words₀ values₀ i session tally words values = RunGives (ranTo s b r t i) words₀ values₀ session tally words values
+
+  module _ (words₀ values₀ : List ℕ) where
+    pub upto-none : Upto words₀ values₀ 0 r t words₀ values₀
     unfolding ranTo
-    upto-none = record { session-is = refl; tally-is = refl; codes-are = refl; keys-are = refl }
+    upto-none = record { session-is = refl; tally-is = refl; words-are = refl; values-are = refl }
 
     -- one command more
-    pub upto-more : (i : ℕ) (session : Record) (tally : Tally) (codes keys : List ℕ) → Upto s b r t codes₀ keys₀ i session tally codes keys
+    pub upto-more : (i : ℕ) (session : Record) (tally : Tally) (words values : List ℕ) → Upto words₀ values₀ i session tally words values
         → (c : List ℕ) → c ≡ commandAt b i → (x : Stepped) → x ≡ steppedOf (commandOf s session tally c)
-        → Upto s b r t codes₀ keys₀ (i + 1) (x .session) (x .tally) (set codes i (x .code)) (set keys i (x .key))
-    upto-more i session tally codes keys u c e x q =
+        → Upto words₀ values₀ (i + 1) (x .session) (x .tally) (set words i (x .word)) (set values i (x .value))
+    upto-more i session tally words values u c e x q =
         let y : Session = ranTo s b r t i in
         let z : Result = commandOf s (y .session) (y .tally) (commandAt b i) in
         let m : more s y (commandAt b i) ≡ ranTo s b r t (i + 1) = sym (to-more i) in
@@ -120,17 +117,16 @@ module _ (s b : List ℕ) (r : Record) (t : Tally) where
         record {
           session-is = ap (λ (v : Stepped). v .session) w ∙ ap (λ (v : Session). v .session) m;
           tally-is = ap (λ (v : Stepped). v .tally) w ∙ ap (λ (v : Session). v .tally) m;
-          codes-are = (λ k. set (u .codes-are k) i (w k .code)) ∙ stored (λ (a : Answered). codeOf (a .answer)) (y .answers) (kept z) codes₀ i (to-length i) ∙ ap (λ (v : Session). sets codes₀ 0 (codesOf v)) m;
-          keys-are = (λ k. set (u .keys-are k) i (w k .key)) ∙ stored (λ (a : Answered). a .key .0) (y .answers) (kept z) keys₀ i (to-length i) ∙ ap (λ (v : Session). sets keys₀ 0 (keysOf v)) m;
+          words-are =
+              (λ k. set (u .words-are k) i (w k .word)) ∙ stored (λ (a : Answered). wordOf (a .answer)) (y .answers) (kept z) words₀ i (to-length i)
+              ∙ ap (λ (v : Session). sets words₀ 0 (wordsOf v)) m;
+          values-are =
+              (λ k. set (u .values-are k) i (w k .value)) ∙ stored (λ (a : Answered). valueOf (a .answer) (a .key)) (y .answers) (kept z) values₀ i (to-length i)
+              ∙ ap (λ (v : Session). sets values₀ 0 (valuesOf v)) m;
         }
 
     -- all commands
-    pub upto-all : (i : ℕ) (session : Record) (tally : Tally) (codes keys : List ℕ) → i ≡ howMany b → Upto s b r t codes₀ keys₀ i session tally codes keys
-        → (session ≡ ranOf s b r t .session) × (tally ≡ ranOf s b r t .tally) × (codes ≡ sets codes₀ 0 (codesOf (ranOf s b r t))) × (keys ≡ sets keys₀ 0 (keysOf (ranOf s b r t)))
-    upto-all i session tally codes keys e u =
-        let m : ranTo s b r t i ≡ ranOf s b r t = ap (ranTo s b r t) e ∙ to-all in (
-          u .session-is ∙ ap (λ (v : Session). v .session) m,
-          u .tally-is ∙ ap (λ (v : Session). v .tally) m,
-          u .codes-are ∙ ap (λ (v : Session). sets codes₀ 0 (codesOf v)) m,
-          u .keys-are ∙ ap (λ (v : Session). sets keys₀ 0 (keysOf v)) m,
-        )
+    pub upto-all : (i : ℕ) (session : Record) (tally : Tally) (words values : List ℕ) → i ≡ howMany b → Upto words₀ values₀ i session tally words values
+        → RunGives (ranOf s b r t) words₀ values₀ session tally words values
+    upto-all i session tally words values e u =
+        subst (λ (y : Session). RunGives y words₀ values₀ session tally words values) (ap (ranTo s b r t) e ∙ to-all) u

@@ -1,16 +1,17 @@
 -- A whole list of commands, given as bytes (01, commands, record, tally), and what it answers from a sound record.
 -- Definitions only.
+use mathlib.Core.Path.{_≡_}
 use mathlib.Core.Bool.{Bool, true, _&&_}
 use mathlib.Core.List.{List, map}
-use lib.Dec.{leb}
+use lib.Dec.{eqb, leb}
 use Prim.Native.Nat.{ℕ, _+_, _*_, _/_}
 use lib.ListN.{length, take, drop}
-use Rattle.net.specs.Tests.{table}
+use lib.Seq.{sets}
+use Rattle.net.specs.Tests.{pick, table}
 use Rattle.tally.specs.declared.Tally.{Tally}
 use Rattle.session.specs.declared.Record.{Record}
 use Rattle.session.specs.declared.Answer.{Answer}
-use Rattle.session.specs.declared.Answer.the-variants.{Fired, Undone, Refused}
-use Rattle.session.specs.Commands.{Result}
+use Rattle.session.specs.Commands.{wordOf, valueOf, answerNumber, Result}
 use Rattle.session.specs.Runs.{Answered, Session, runOf}
 use Rattle.runs.specs.declared.Stepped.{Stepped}
 
@@ -27,29 +28,26 @@ commandAt b i = take 3 (drop (3 * i) b)
 abbrev pub commandsIn : List ℕ → List (List ℕ)
 commandsIn b = table (howMany b) (commandAt b)
 
--- ---- The answers as numbers
+-- ---- The answers as numbers: each as its word and its value
 
--- 0 for fired, 1 for undone, else the refusal's number.
-abbrev pub codeOf : Answer → ℕ
-codeOf Fired = 0
-codeOf Undone = 1
-codeOf (Refused n) = n
+abbrev pub wordsOf : Session → List ℕ
+wordsOf y = map (λ (a : Answered). wordOf (a .answer)) (y .answers)
 
--- Fired, undone, or a refusal whose number is 11 to 21: proofs/Codes shows it of every command on a sound record.
-abbrev pub toldApart : Answer → Bool
-toldApart Fired = true
-toldApart Undone = true
-toldApart (Refused n) = leb 11 n && leb n 21
+abbrev pub valuesOf : Session → List ℕ
+valuesOf y = map (λ (a : Answered). valueOf (a .answer) (a .key)) (y .answers)
 
-abbrev pub codesOf : Session → List ℕ
-codesOf y = map (λ (a : Answered). codeOf (a .answer)) (y .answers)
+-- A refusal of a command on a sound record is 11 to 21: proofs/Values shows it.
+abbrev pub lowRefusal : Answer → Bool
+lowRefusal a = pick (eqb (wordOf a) 2) (leb 11 (answerNumber a) && leb (answerNumber a) 21) true
 
-abbrev pub keysOf : Session → List ℕ
-keysOf y = map (λ (a : Answered). a .key .0) (y .answers)
-
--- one command's outcome and tally, with the answer and the key as numbers
+-- one command's outcome and tally, with the answer and the key as word and value
 abbrev pub steppedOf : Result → Stepped
-steppedOf y = record { session = y .outcome .session; tally = y .tally; code = codeOf (y .outcome .answer); key = y .outcome .key .0 }
+steppedOf y = record {
+  session = y .outcome .session;
+  tally = y .tally;
+  word = wordOf (y .outcome .answer);
+  value = valueOf (y .outcome .answer) (y .outcome .key);
+}
 
 -- ---- The run
 
@@ -60,3 +58,11 @@ ranTo s b r t i = runOf s (table i (commandAt b)) r t
 -- the session after them all
 unfoldable pub ranOf : List ℕ → List ℕ → Record → Tally → Session
 ranOf s b r t = runOf s (commandsIn b) r t
+
+-- What `run` promises: the record and the tally are those of the definition, and the two lent lists have the answers' words
+-- and values from entry 0 on; what lies after them stays.
+pub record RunGives (y : Session) (words₀ values₀ : List ℕ) (session : Record) (tally : Tally) (words values : List ℕ) : Type 0 where
+  pub session-is : session ≡ y .session
+  pub tally-is : tally ≡ y .tally
+  pub words-are : words ≡ sets words₀ 0 (wordsOf y)
+  pub values-are : values ≡ sets values₀ 0 (valuesOf y)

@@ -84,6 +84,12 @@ valueOf Fired k = k .0
 valueOf Undone k = k .0
 valueOf (Refused n) k = n
 
+-- a serial has 16 bits, a refusal's number 8
+abbrev pub valueBound : Answer → ℕ
+valueBound Fired = 65536
+valueBound Undone = 65536
+valueBound (Refused n) = 256
+
 -- The journal's answer that a word and a value say: so no two answers say the same (proofs/Answers).
 abbrev pub heardOf : ℕ → ℕ → J.Answer
 heardOf word value = pick (eqb word 0) (J.fired (key value)) (pick (eqb word 1) (J.undone (key value)) (J.refused value))

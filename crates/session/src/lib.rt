@@ -3,7 +3,7 @@
 ghost use mathlib.Core.Path.{_≡_};
 ghost use Prim.Native.Nat.{_<_};
 ghost use Rattle.session.specs.Records.{Sound};
-ghost use Rattle.session.specs.Commands.{decodedOf, wordOf, valueOf, refusal, fireOutcome, undoOutcome, performOf, outcomeFor, Commanded};
+ghost use Rattle.session.specs.Commands.{decodedOf, wordOf, valueOf, valueBound, refusal, fireOutcome, undoOutcome, performOf, outcomeFor, Commanded};
 use firings::Firing;
 use firings::built_on;
 use firings::closed_up;
@@ -105,6 +105,7 @@ pub fn word_of(a: Answer) -> u8
 // The number after the word: the key, or the refusal's number.
 pub fn value_of(a: Answer, key: Key) -> u16
     ensures { λ r. ⌜ r ≡ valueOf a key ⌝ }
+    ensures { λ r. ⌜ r < valueBound a ⌝ }
 {
     match a {
         Answer::Fired => key.0,

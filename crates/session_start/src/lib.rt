@@ -1,7 +1,9 @@
 // Starting a session on a sheet (document 01, the session book; the turned-away list): the fresh record, or a record of
 // zeros with the sheet's refusal. Any bytes may be handed in.
 ghost use mathlib.Core.Path.{_≡_};
-ghost use Rattle.session.specs.Commands.{zeroRecord, startOf};
+ghost use Rattle.net.specs.Checks.{first};
+ghost use Rattle.sheet.specs.Checks.{sheetChecks};
+ghost use Rattle.session.specs.Commands.{zeroRecord, startOf, startNumber};
 use firings::no_firing;
 use fresh_marking::start_marking;
 use marking::Marking;
@@ -15,7 +17,7 @@ use sheet::check_sheet;
 use sheet::sheet_number;
 
 // A record of zeros.
-pub fn zero_record() -> Record
+fn zero_record() -> Record
     ensures { λ r. ⌜ r ≡ zeroRecord ⌝ }
 {
     let m = Marking {
@@ -34,6 +36,7 @@ pub fn zero_record() -> Record
 // The fresh record of an accepted sheet; of any other its refusal, and a record of zeros.
 pub fn start(sheet: &[u8]) -> Start
     ensures { λ r. ⌜ r ≡ startOf (now (sheet .entry)) ⌝ }
+    ensures { λ r. ⌜ startNumber (r .answer) ≡ first (sheetChecks (now (sheet .entry))) ⌝ }
 {
     let checked = check_sheet(sheet);
     let refusal = sheet_number(checked);

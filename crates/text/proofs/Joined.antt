@@ -8,7 +8,8 @@ use lib.ListN.{length, length-append}
 use Rattle.net.specs.Tests.{table}
 use Rattle.net.proofs.Tables.{table-more}
 use Rattle.text.specs.Joined.{joined}
-use Rattle.text.proofs.Writes.{Wrote, Written, written-more}
+use Rattle.text.specs.Writes.{Wrote}
+use Rattle.text.proofs.Writes.{Written, written-more}
 
 pub joined-snoc : (ts : List (List ℕ)) (t : List ℕ) → joined (ts ++ (t ∷ [])) ≡ joined ts ++ t
 joined-snoc [] t = append-nil t

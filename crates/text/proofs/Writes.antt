@@ -8,6 +8,7 @@ use native.Mathlib.Omega.{arith}
 use mathlib.Core.List.{List, [], _∷_, _++_}
 use lib.ListN.{length, getD, set, take, drop, length-append}
 use lib.Seq.{sets, sets-eq, take-suc, length-take-le}
+use Rattle.text.specs.Writes.{Wrote}
 
 shift : (i n : ℕ) → i + suc n ≡ suc i + n
 shift i n = add-suc i n ∙ sym (suc-add i n)
@@ -34,10 +35,6 @@ copied-more b₀ word at i h =
     let s : set (sets b₀ at (take i word)) (at + length (take i word)) (getD word i 0) ≡ _ = sets-snoc (take i word) b₀ at (getD word i 0) in
     let q : at + length (take i word) ≡ at + i = ap (λ (k : ℕ). at + k) e in
     ap (λ (k : ℕ). set (sets b₀ at (take i word)) k (getD word i 0)) (sym q) ∙ s ∙ sym (rw (add-one i, take-suc word i 0))
-
--- a writer of the bytes ws was called on the buffer b at k, answered k′ and left b′
-abbrev pub Wrote : List ℕ → ℕ → List ℕ → ℕ → List ℕ → Type 0
-Wrote ws k b k′ b′ = (k′ ≡ k + length ws) × (b′ ≡ sets b k ws)
 
 -- a buffer l in which the text vs now stands from at on, up to k
 pub record Written (l : List ℕ) (at : ℕ) (vs : List ℕ) (k : ℕ) (now : List ℕ) : Type 0 where

@@ -1,16 +1,15 @@
-// Text into a lent buffer: decimal numbers and words, from a given position on. Every contract says all of the buffer:
-// `sets l at bytes` is l with bytes stored from at on.
-ghost use mathlib.Core.Path.{_≡_};
+// Text into a lent buffer: decimal numbers and words, from a given position on. Every contract says all of the buffer
+// (`Wrote`) and answers where the text ends.
 ghost use Prim.Native.Nat.{_+_, _≤_};
 ghost use lib.ListN.{length};
-ghost use lib.Seq.{sets};
 ghost use Rattle.text.specs.Decimal.{digits};
+ghost use Rattle.text.specs.Writes.{Wrote};
 
 // The last `places` digits of n, with no zero in front. Answers where the text ends.
 // The callers have checked that the buffer is long enough, as for the function below.
 pub fn put_digits(buf: &mut [u8], at: usize, n: u32, places: usize) -> usize
     requires { ⌜ at + places ≤ length (now buf) ⌝ }
-    ensures { λ r. ⌜ (r ≡ at + length (digits places n)) × (now (buf .exit) ≡ sets (now (buf .entry)) at (digits places n)) ⌝ }
+    ensures { λ r. ⌜ Wrote (digits places n) at (now (buf .entry)) r (now (buf .exit)) ⌝ }
 {
     if places == 0 {
         return at;
@@ -27,7 +26,7 @@ pub fn put_digits(buf: &mut [u8], at: usize, n: u32, places: usize) -> usize
 // The bytes of a word. Answers where the text ends.
 pub fn put_word(buf: &mut [u8], at: usize, word: &[u8]) -> usize
     requires { ⌜ at + length (now word) ≤ length (now buf) ⌝ }
-    ensures { λ r. ⌜ (r ≡ at + length (now (word .entry))) × (now (buf .exit) ≡ sets (now (buf .entry)) at (now (word .entry))) ⌝ }
+    ensures { λ r. ⌜ Wrote (now (word .entry)) at (now (buf .entry)) r (now (buf .exit)) ⌝ }
 {
     let mut i = 0;
     while i < word.len() {

@@ -2,6 +2,7 @@
 -- Assumes nothing but the laws of proofs/.
 use Rattle.text.proofs.Digits.{digits-length}
 use Rattle.report.proofs.Pieces.{room, pieces}
+use Rattle.report.proofs.Whole.{words-fit}
 use native.Mathlib.Omega.{arith}
 use borrow.Author.Needs.{needs}
 use Rattle.report.proofs.put_line.Statement.{statement}
@@ -32,7 +33,9 @@ same-length c = search needs
 returns : tie.Need-returns
 returns c =
     let from = c .before .before .before .before .before .before .before .before .before .before .before .before .before .before .before .before .before .before in
-    pieces (from .args .buf .now) (from .args .at) (from .args .number) (from .args .word) (from .args .value) (room (from .args .word) (from .args .value) (from .pre .1) .1) (c .before .before .before .before .before .before .before .before .before .before .before .before .before .before .before .put-digits .ensures) (c .before .before .before .before .before .before .before .before .before .before .before .put-answer .ensures) (c .before .before .before .before .before .before .before .put-digits2 .ensures) (c .before .before .put-word .ensures)
+    let low = from .pre .1 in
+    let all = pieces (from .args .buf .now) (from .args .at) (from .args .number) (from .args .word) (from .args .value) (room (from .args .word) (from .args .value) low .1) (c .before .before .before .before .before .before .before .before .before .before .before .before .before .before .before .put-digits .ensures) (c .before .before .before .before .before .before .before .before .before .before .before .put-answer .ensures) (c .before .before .before .before .before .before .before .put-digits2 .ensures) (c .before .before .put-word .ensures) in
+    (all, omega (arith, all .0, words-fit (from .args .number) (from .args .word) (from .args .value) low))
 
 pub put-line-spec : {M : Type 1} → statement M
 put-line-spec =

@@ -14,17 +14,17 @@ use Rattle.runs.proofs.run.Statement.{statement}
 use Rattle.runs.proofs.run.Tie as tie
 
 abbrev Inv-loop : tie.InvT-loop
-Inv-loop sheet commands codes₀ keys₀ session₀ counts₀ at₀ i₀ codes keys session counts at i =
-    (at ≡ 3 * i) × (i ≤ howMany commands) × (howMany commands ≤ length codes₀) × (howMany commands ≤ length keys₀) × (length codes ≡ length codes₀) × (length keys ≡ length keys₀)
-    × Sound sheet session × Upto sheet commands session₀ counts₀ codes₀ keys₀ i session counts codes keys
+Inv-loop sheet commands words₀ values₀ session₀ counts₀ at₀ i₀ words values session counts at i =
+    (at ≡ 3 * i) × (i ≤ howMany commands) × (howMany commands ≤ length words₀) × (howMany commands ≤ length values₀) × (length words ≡ length words₀) × (length values ≡ length values₀)
+    × Sound sheet session × Upto sheet commands session₀ counts₀ words₀ values₀ i session counts words values
 
 abbrev μ-loop : tie.MeasureT-loop
-μ-loop sheet commands codes₀ keys₀ session₀ counts₀ at₀ i₀ codes keys session counts at i = length commands - at
+μ-loop sheet commands words₀ values₀ session₀ counts₀ at₀ i₀ words values session counts at i = length commands - at
 
 loop-holds : tie.Need-loop-holds Inv-loop μ-loop
 loop-holds c =
     let from = c .before .before .before .before in
-    (search needs, search needs, from .pre .1, from .pre .2, refl, refl, from .pre .0, upto-none (from .args .sheet .now) (from .args .commands .now) (from .args .r) (from .args .t) (from .args .codes .now) (from .args .keys .now))
+    (search needs, search needs, from .pre .1, from .pre .2, refl, refl, from .pre .0, upto-none (from .args .sheet .now) (from .args .commands .now) (from .args .r) (from .args .t) (from .args .words .now) (from .args .values .now))
 
 command-at-requires : tie.Need-command-at-requires Inv-loop μ-loop
 command-at-requires c κs = search needs
@@ -32,17 +32,14 @@ command-at-requires c κs = search needs
 step-with-requires : tie.Need-step-with-requires Inv-loop μ-loop
 step-with-requires c κs = search needs
 
-mul-codes : tie.Need-mul-codes Inv-loop μ-loop
-mul-codes c = search needs
+slice-write-words : tie.Need-slice-write-words Inv-loop μ-loop
+slice-write-words c = search needs
 
-slice-write-codes : tie.Need-slice-write-codes Inv-loop μ-loop
-slice-write-codes c = search needs
+mul-values : tie.Need-mul-values Inv-loop μ-loop
+mul-values c = search needs
 
-mul-keys : tie.Need-mul-keys Inv-loop μ-loop
-mul-keys c = search needs
-
-slice-write-keys : tie.Need-slice-write-keys Inv-loop μ-loop
-slice-write-keys c = search needs
+slice-write-values : tie.Need-slice-write-values Inv-loop μ-loop
+slice-write-values c = search needs
 
 add-at : tie.Need-add-at Inv-loop μ-loop
 add-at c = search needs
@@ -67,7 +64,7 @@ loop-again c =
       simp length-set (at .loop .inv .4),
       simp length-set (at .loop .inv .5),
       step-sound (from .args .sheet .now) (at .loop .session) (at .loop .inv .6) (at .loop .counts) _ _ done,
-      upto-more (from .args .sheet .now) b (from .args .r) (from .args .t) (from .args .codes .now) (from .args .keys .now) (at .loop .i) (at .loop .session) (at .loop .counts) (at .loop .codes) (at .loop .keys) (at .loop .inv .7) _ part _ done,
+      upto-more (from .args .sheet .now) b (from .args .r) (from .args .t) (from .args .words .now) (from .args .values .now) (at .loop .i) (at .loop .session) (at .loop .counts) (at .loop .words) (at .loop .values) (at .loop .inv .7) _ part _ done,
     )
 
 same-length : tie.Need-same-length Inv-loop μ-loop
@@ -81,7 +78,7 @@ returns c =
     let at : tie.At-loop Inv-loop μ-loop = c .before in
     let from = at .before .before .before .before .before in
     let all : at .loop .i ≡ howMany (from .args .commands .now) = omega arith in
-    upto-all (from .args .sheet .now) (from .args .commands .now) (from .args .r) (from .args .t) (from .args .codes .now) (from .args .keys .now) (at .loop .i) (at .loop .session) (at .loop .counts) (at .loop .codes) (at .loop .keys) all (at .loop .inv .7)
+    upto-all (from .args .sheet .now) (from .args .commands .now) (from .args .r) (from .args .t) (from .args .words .now) (from .args .values .now) (at .loop .i) (at .loop .session) (at .loop .counts) (at .loop .words) (at .loop .values) all (at .loop .inv .7)
 
 pub run-spec : {M : Type 1} → statement M
 run-spec =
@@ -92,10 +89,9 @@ run-spec =
     loop-holds
     command-at-requires
     step-with-requires
-    mul-codes
-    slice-write-codes
-    mul-keys
-    slice-write-keys
+    slice-write-words
+    mul-values
+    slice-write-values
     add-at
     add-i
     loop-less

@@ -9,23 +9,23 @@ use Rattle.runs.proofs.step_with.Tie as tie
 perform-requires : tie.Need-perform-requires
 perform-requires c κs = search needs
 
-count-of-requires : tie.Need-count-of-requires
-count-of-requires c κs = search needs
+word-of-requires : tie.Need-word-of-requires
+word-of-requires c κs = search needs
 
-code-of-requires : tie.Need-code-of-requires
-code-of-requires c κs = search needs
+value-of-requires : tie.Need-value-of-requires
+value-of-requires c κs = search needs
 
 counted-requires : tie.Need-counted-requires
 counted-requires c κs = search needs
 
 returns : tie.Need-returns
 returns c =
-    let own : tie.After-perform = c .before .before .before .before .before in
+    let own : tie.After-perform = c .before .before .before .before in
     let from = own .before .before .before in
     stepped (from .args .sheet .now) (from .args .r) (from .pre) (from .args .t) (from .args .bytes .now) _ (own .perform .ensures)
-    _ (c .before .before .before .before .count-of .ensures) _ (c .before .before .before .code-of .ensures) _ (c .before .before .counted .ensures)
+    _ (c .before .before .before .word-of .ensures) _ (c .before .before .value-of .ensures) _ (c .before .counted .ensures)
 
 pub step-with-spec : {M : Type 1} → statement M
 step-with-spec =
     tie.close
-    (tie.spec perform-requires count-of-requires code-of-requires counted-requires returns)
+    (tie.spec perform-requires word-of-requires value-of-requires counted-requires returns)

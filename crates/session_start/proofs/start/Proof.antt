@@ -1,6 +1,6 @@
 -- `session_start::start` meets its contract.
 -- Assumes nothing but the laws of proofs/.
-use mathlib.Core.Path.{_∙_}
+use mathlib.Core.Path.{sym, _∙_}
 use Prim.Native.Nat.{_-_}
 use Rattle.sound.proofs.Tests.{start-fits}
 use Rattle.session.proofs.Answering.{sheet-clear}
@@ -19,7 +19,9 @@ zero-record-requires : tie.Need-zero-record-requires
 zero-record-requires c κs = search needs
 
 returns : tie.Need-returns
-returns c = refused (c .before .before .before .before .before .args .sheet .now) _ (c .before .before .sheet-number .ensures ∙ c .before .before .before .check-sheet .ensures .1) _ (c .before .if1 .taken) (c .zero-record .ensures)
+returns c =
+    let number = c .before .before .sheet-number .ensures ∙ c .before .before .before .check-sheet .ensures .1 in
+    (refused (c .before .before .before .before .before .args .sheet .now) _ number _ (c .before .if1 .taken) (c .zero-record .ensures), number)
 
 start-marking-requires : tie.Need-start-marking-requires
 start-marking-requires c κs = start-fits (c .before .before .before .before .args .sheet .now) (sheet-clear (c .before .before .before .before .args .sheet .now) _ (c .before .sheet-number .ensures ∙ c .before .before .check-sheet .ensures .1) (c .if1 .left))
@@ -28,7 +30,9 @@ no-firing-requires : tie.Need-no-firing-requires
 no-firing-requires c κs = search needs
 
 returns-2 : tie.Need-returns-2
-returns-2 c = started (c .before .before .before .before .before .before .args .sheet .now) _ (c .before .before .before .sheet-number .ensures ∙ c .before .before .before .before .check-sheet .ensures .1) _ _ (c .before .before .if1 .left) (c .before .start-marking .ensures) (c .no-firing .ensures)
+returns-2 c =
+    let number = c .before .before .before .sheet-number .ensures ∙ c .before .before .before .before .check-sheet .ensures .1 in
+    (started (c .before .before .before .before .before .before .args .sheet .now) _ number _ _ (c .before .before .if1 .left) (c .before .start-marking .ensures) (c .no-firing .ensures), sym (c .before .before .if1 .left) ∙ number)
 
 pub start-spec : {M : Type 1} → statement M
 start-spec =

@@ -1,4 +1,4 @@
--- The codes tell the answers apart: 0 fired, 1 undone, and every refusal of a command on a sound record is 11 to 21.
+-- Every refusal of a command on a sound record is 11 to 21.
 -- Assumes nothing.
 use mathlib.Core.Path.{_≡_, refl, sym, _∙_, ap}
 use mathlib.Core.Bool.{Bool, true, false, not, _&&_}
@@ -19,7 +19,7 @@ use Rattle.session.specs.declared.Record.{Record}
 use Rattle.session.specs.declared.Outcome.{Outcome}
 use Rattle.session.proofs.Steps.{outcome-is}
 use Rattle.runs.proofs.Stays.{performs, command-sound}
-use Rattle.runs.specs.Lists.{toldApart}
+use Rattle.runs.specs.Lists.{lowRefusal}
 
 abbrev within : ℕ → Bool
 within n = leb 11 n && leb n 21
@@ -44,25 +44,25 @@ module _ (s : List ℕ) (r : Record) (c : List ℕ) where
       go true = refl
       go false = refl
 
-  accepted-told : toldApart (acceptOf s r c .answer) ≡ true
-  accepted-told = go (eqb (kindOf c) 1)
+  accepted-low : lowRefusal (acceptOf s r c .answer) ≡ true
+  accepted-low = go (eqb (kindOf c) 1)
     where
-      go : (b : Bool) → toldApart (outcomeOf (pick b (fireReply (netOf s) (heldIn s r) (transitionNamed c)) (undoReply (netOf s) (heldIn s r) (keyNamed (heldIn s r) c))) .answer) ≡ true
+      go : (b : Bool) → lowRefusal (outcomeOf (pick b (fireReply (netOf s) (heldIn s r) (transitionNamed c)) (undoReply (netOf s) (heldIn s r) (keyNamed (heldIn s r) c))) .answer) ≡ true
       go true = refl
       go false = refl
 
-  pub told : toldApart (performOf s r c .answer) ≡ true
+  pub low : lowRefusal (performOf s r c .answer) ≡ true
   unfolding performOf
-  told = go (clear (checks (netOf s) (heldIn s r) c)) refl
+  low = go (clear (checks (netOf s) (heldIn s r) c)) refl
     where
-      go : (b : Bool) → clear (checks (netOf s) (heldIn s r) c) ≡ b → toldApart (pick b (acceptOf s r c) (refusal r (first (checks (netOf s) (heldIn s r) c))) .answer) ≡ true
-      go true e = accepted-told
+      go : (b : Bool) → clear (checks (netOf s) (heldIn s r) c) ≡ b → lowRefusal (pick b (acceptOf s r c) (refusal r (first (checks (netOf s) (heldIn s r) c))) .answer) ≡ true
+      go true e = accepted-low
       go false e = first-high (checks (netOf s) (heldIn s r) c) all-high e
 
 -- every answer of a list of commands
-pub all-told : (s : List ℕ) (cs : List (List ℕ)) (r : Record) (t : Tally) → Sound s r → all (λ (a : Answered). toldApart (a .answer)) (runOf s cs r t .answers) ≡ true
-all-told s [] r t S = refl
-all-told s (c ∷ cs) r t S =
+pub all-low : (s : List ℕ) (cs : List (List ℕ)) (r : Record) (t : Tally) → Sound s r → all (λ (a : Answered). lowRefusal (a .answer)) (runOf s cs r t .answers) ≡ true
+all-low s [] r t S = refl
+all-low s (c ∷ cs) r t S =
     let y : Result = commandOf s r t c in
-    and-i (toldApart (y .outcome .answer)) _ (ap (λ (o : Outcome). toldApart (o .answer)) (outcome-is s r t c ∙ sym (performs s r S c)) ∙ told s r c)
-    (all-told s cs (y .outcome .session) (y .tally) (command-sound s r S t c))
+    and-i (lowRefusal (y .outcome .answer)) _ (ap (λ (o : Outcome). lowRefusal (o .answer)) (outcome-is s r t c ∙ sym (performs s r S c)) ∙ low s r c)
+    (all-low s cs (y .outcome .session) (y .tally) (command-sound s r S t c))
