@@ -17,22 +17,23 @@ use Rattle.firings.specs.declared.Firing.{Firing}
 use Rattle.sound.specs.Soundness.{journalIn}
 use Rattle.tally.specs.declared.Tally.{Tally}
 use Rattle.text.specs.Writes.{Wrote}
+use Rattle.text.specs.Ascii.{ascii}
 use Rattle.text.proofs.Writes.{written-none, written-more, written-pair}
 use Rattle.closing.specs.Closing.{itemRoom, bondRoom, placesLine, bondLines, liveLine, tallyLine}
 use Rattle.closing.proofs.Lines.{row-length, bonds-table, bonds-upto}
 use Rattle.output.specs.Output.{keysLive, closingOf}
-use Rattle.output.specs.Coded.{keysIn, placesRoom, liveRoom}
+use Rattle.output.specs.Said.{keysIn, placesRoom, liveRoom}
 
 -- ---- Lengths
 
 pub places-fit : (ps : List ℕ) → length ps ≤ maxBases → length (placesLine ps) ≤ placesRoom
-places-fit ps h = let a = row-length (112 ∷ 108 ∷ 97 ∷ 99 ∷ 101 ∷ 115 ∷ []) ps in omega arith
+places-fit ps h = let a = row-length (ascii "places") ps in omega arith
 
 pub live-fits : (ks : List ℕ) → length ks ≤ maxLive → length (liveLine ks) ≤ liveRoom
-live-fits ks h = let a = row-length (108 ∷ 105 ∷ 118 ∷ 101 ∷ []) ks in omega arith
+live-fits ks h = let a = row-length (ascii "live") ks in omega arith
 
 pub tally-fits : (f u r : ℕ) → length (tallyLine f u r) ≤ 6 + itemRoom * 3
-tally-fits f u r = row-length (116 ∷ 97 ∷ 108 ∷ 108 ∷ 121 ∷ []) (f ∷ u ∷ r ∷ [])
+tally-fits f u r = row-length (ascii "tally") (f ∷ u ∷ r ∷ [])
 
 pub bonds-fit : (lo hi : List ℕ) (n : ℕ) → length (bondLines (bondsIn lo hi n)) ≤ bondRoom * n
 bonds-fit lo hi n = let a = bonds-upto lo hi n in let e = ap (λ (t : List ℕ). length t) (bonds-table lo hi n) in omega arith

@@ -1,5 +1,5 @@
 -- Laws of the whole output.
-pub mod Codes
+pub mod Answers
 pub mod Closing
 pub mod Sessions
 pub mod Starts

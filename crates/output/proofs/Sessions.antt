@@ -1,4 +1,4 @@
--- What a session from a fresh record comes to, as text: the run's codes and keys, its record and its tally give the text
+-- What a session from a fresh record comes to, as text: the run's words and values, its record and its tally give the text
 -- that the journal gives. Assumes an accepted sheet.
 use mathlib.Core.Path.{_≡_, refl, sym, ap, _∙_, subst}
 use mathlib.Core.Bool.{true}
@@ -24,22 +24,23 @@ use Rattle.sheet.proofs.Accepted.{promised}
 use Rattle.tally.specs.Counts.{countedOf, zeroTally}
 use Rattle.tally.specs.declared.Tally.{Tally}
 use Rattle.text.specs.Joined.{joined}
+use Rattle.text.specs.Writes.{Wrote, Filled}
 use Rattle.text.proofs.Writes.{sets-front, written-none, written-more}
 use Rattle.sound.specs.Soundness.{journalIn, soundIn}
 use Rattle.session.specs.Records.{heldIn, recordOf, Sound}
-use Rattle.session.specs.Commands.{answerOf, keyOf, countOf, Result, commandOf, freshOf}
+use Rattle.session.specs.Commands.{answerOf, keyOf, wordOf, valueOf, Result, commandOf, freshOf}
 use Rattle.session.specs.Runs.{answered, Answered, Session, runOf}
 use Rattle.session.specs.declared.Record.{Record}
 use Rattle.session.proofs.Steps.{follows-fresh, held-back}
 use Rattle.session.proofs.Sounds.{live-few}
 use Rattle.session.proofs.Begins.{fresh-sound}
-use Rattle.runs.specs.Lists.{howMany, commandAt, commandsIn, codeOf, toldApart, codesOf, keysOf, ranOf}
+use Rattle.runs.specs.Lists.{howMany, commandAt, commandsIn, lowRefusal, wordsOf, valuesOf, ranOf, RunGives}
 use Rattle.runs.proofs.Turns.{length-map, run-length, ran-sound}
-use Rattle.runs.proofs.Codes.{all-told}
-use Rattle.report.specs.Lines.{lineOf}
+use Rattle.runs.proofs.Values.{all-low}
+use Rattle.report.specs.Lines.{toldLine}
 use Rattle.output.specs.Output.{answerLines, tallied, closingOf, sessionText}
-use Rattle.output.specs.Coded.{codedAt, codedLines, LowCodes}
-use Rattle.output.proofs.Codes.{answeredLines, codes, keys, told-lines, low-codes}
+use Rattle.output.specs.Said.{lineAt, linesUpto, LowValues}
+use Rattle.output.proofs.Answers.{answeredLines, told-lines, low-values}
 
 -- ---- Lists that were stored from the front of a longer one
 
@@ -51,7 +52,7 @@ stored l vs i h e = ap (λ (k : List ℕ). getD k i 0) (sets-front vs l h) ∙ L
 -- the tally after the answers of a run
 countedBy : List Answered → Tally → Tally
 countedBy [] t = t
-countedBy (a ∷ rest) t = countedBy rest (countedOf t (countOf (a .answer)))
+countedBy (a ∷ rest) t = countedBy rest (countedOf t (wordOf (a .answer)))
 
 run-tally : (s : List ℕ) (cs : List (List ℕ)) (r : Record) (t : Tally) → runOf s cs r t .tally ≡ countedBy (runOf s cs r t .answers) t
 unfolding commandOf countedBy
@@ -63,11 +64,11 @@ run-tally s (c ∷ cs) r t = let y : Result = commandOf s r t c in run-tally s c
 counted-answers : (l : List J.Answer) (t : Tally) → countedBy (map answered l) t ≡ tallied l t
 unfolding countedBy
 counted-answers [] t = refl
-counted-answers (a ∷ rest) t = counted-answers rest (countedOf t (countOf (answered a .answer)))
+counted-answers (a ∷ rest) t = counted-answers rest (countedOf t (wordOf (answered a .answer)))
 
 answered-lines : (k : ℕ) (l : List J.Answer) → answeredLines k (map answered l) ≡ answerLines k l
 answered-lines k [] = refl
-answered-lines k (a ∷ rest) = ap (λ (t : List ℕ). lineOf (suc k) (answerOf a) (keyOf a) ++ t) (answered-lines (suc k) rest)
+answered-lines k (a ∷ rest) = ap (λ (t : List ℕ). toldLine (suc k) (answerOf a) (keyOf a) ++ t) (answered-lines (suc k) rest)
 
 -- ---- A session on an accepted sheet, b being the commands' bytes
 
@@ -100,9 +101,9 @@ module _ (s b : List ℕ) (accepted : clear (sheetChecks s) ≡ true) where
       let P = promised s accepted in
       ap (heldIn s) session-is ∙ held-back s accepted (P .rule) (P .bases .1) journal (play-held (netOf s) (P .rule) (commandsIn b) (begin (netOf s)) (begin-held (netOf s) (P .rule)))
 
-  told : all (λ (a : Answered). toldApart (a .answer)) (ran .answers) ≡ true
+  low : all (λ (a : Answered). lowRefusal (a .answer)) (ran .answers) ≡ true
   unfolding ranOf
-  told = all-told s (commandsIn b) (freshOf s) zeroTally (fresh-sound s accepted)
+  low = all-low s (commandsIn b) (freshOf s) zeroTally (fresh-sound s accepted)
 
   many : length (ran .answers) ≡ howMany b
   unfolding ranOf
@@ -116,82 +117,73 @@ module _ (s b : List ℕ) (accepted : clear (sheetChecks s) ≡ true) where
   unfolding soundIn
   few-bonds = leb-true (ran .session .marking .count) maxBonds (and-l _ _ (and-l _ _ (and-l _ _ (ran-sound s b (freshOf s) zeroTally (fresh-sound s accepted) .sound))))
 
-  -- codes and keys that were stored in longer lists
-  codes-many : length (codesOf ran) ≡ howMany b
-  codes-many = length-map (λ (a : Answered). codeOf (a .answer)) (ran .answers) ∙ many
+  -- words and values that were stored in longer lists
+  words-many : length (wordsOf ran) ≡ howMany b
+  words-many = length-map (λ (a : Answered). wordOf (a .answer)) (ran .answers) ∙ many
 
-  keys-many : length (keysOf ran) ≡ howMany b
-  keys-many = length-map (λ (a : Answered). a .key .0) (ran .answers) ∙ many
+  values-many : length (valuesOf ran) ≡ howMany b
+  values-many = length-map (λ (a : Answered). valueOf (a .answer) (a .key)) (ran .answers) ∙ many
 
-  module _ (codes₀ keys₀ : List ℕ) (room : howMany b ≤ length codes₀) (space : howMany b ≤ length keys₀) where
-    low-stored : LowCodes (sets codes₀ 0 (codesOf ran)) (howMany b)
-    low-stored i h =
-        let e = codes-many in
-        let m = many in
-        rw (stored codes₀ (codesOf ran) i (omega arith) (omega arith)) (low-codes (ran .answers) told i (omega arith))
+  module _ (words₀ values₀ : List ℕ) (room : howMany b ≤ length words₀) (space : howMany b ≤ length values₀) where
+    word-at : (i : ℕ) → i < howMany b → getD (sets words₀ 0 (wordsOf ran)) i 0 ≡ getD (wordsOf ran) i 0
+    word-at i h = let e = words-many in stored words₀ (wordsOf ran) i (omega arith) (omega arith)
+
+    value-at : (i : ℕ) → i < howMany b → getD (sets values₀ 0 (valuesOf ran)) i 0 ≡ getD (valuesOf ran) i 0
+    value-at i h = let e = values-many in stored values₀ (valuesOf ran) i (omega arith) (omega arith)
+
+    low-stored : LowValues (sets words₀ 0 (wordsOf ran)) (sets values₀ 0 (valuesOf ran)) (howMany b)
+    low-stored i h = let m = many in rw (word-at i h, value-at i h) (low-values (ran .answers) low i (omega arith))
 
     -- the lines of what was stored are the answers' lines
-    lines-stored : codedLines (sets codes₀ 0 (codesOf ran)) (sets keys₀ 0 (keysOf ran)) (howMany b) ≡ answerLines 0 replies
+    lines-stored : linesUpto (sets words₀ 0 (wordsOf ran)) (sets values₀ 0 (valuesOf ran)) (howMany b) ≡ answerLines 0 replies
     lines-stored =
-        ap joined (table-cong (howMany b) (codedAt (sets codes₀ 0 (codesOf ran)) (sets keys₀ 0 (keysOf ran))) (codedAt (codesOf ran) (keysOf ran)) same)
-        ∙ ap (λ (n : ℕ). codedLines (codesOf ran) (keysOf ran) n) (sym many)
-        ∙ told-lines (ran .answers) told
+        ap joined (table-cong (howMany b) (lineAt (sets words₀ 0 (wordsOf ran)) (sets values₀ 0 (valuesOf ran))) (lineAt (wordsOf ran) (valuesOf ran)) same)
+        ∙ ap (λ (n : ℕ). linesUpto (wordsOf ran) (valuesOf ran) n) (sym many)
+        ∙ told-lines (ran .answers)
         ∙ ap (answeredLines 0) answers-are
         ∙ answered-lines 0 replies
       where
-        same : (i : ℕ) → i < howMany b → codedAt (sets codes₀ 0 (codesOf ran)) (sets keys₀ 0 (keysOf ran)) i ≡ codedAt (codesOf ran) (keysOf ran) i
-        same i h =
-            let e = codes-many in
-            let d = keys-many in
-            rw (stored codes₀ (codesOf ran) i (omega arith) (omega arith), stored keys₀ (keysOf ran) i (omega arith) (omega arith))
+        same : (i : ℕ) → i < howMany b → lineAt (sets words₀ 0 (wordsOf ran)) (sets values₀ 0 (valuesOf ran)) i ≡ lineAt (wordsOf ran) (valuesOf ran) i
+        same i h = rw (word-at i h, value-at i h)
 
 -- ---- What the code has in hand
 
--- what `run` gives, from a record and into two lists
-pub record RunGives (s b : List ℕ) (r : Record) (codes₀ keys₀ : List ℕ) (session : Record) (tally : Tally) (codes keys : List ℕ) : Type 0 where
+-- what `run` was given, a fresh record and room, and what it gave
+pub record Ran (s b : List ℕ) (r : Record) (words₀ values₀ : List ℕ) (session : Record) (tally : Tally) (words values : List ℕ) : Type 0 where
   pub accepted : clear (sheetChecks s) ≡ true
   pub fresh : r ≡ freshOf s
-  pub room : howMany b ≤ length codes₀
-  pub space : howMany b ≤ length keys₀
-  pub gives : (session ≡ ranOf s b r zeroTally .session) × (tally ≡ ranOf s b r zeroTally .tally) × (codes ≡ sets codes₀ 0 (codesOf (ranOf s b r zeroTally))) × (keys ≡ sets keys₀ 0 (keysOf (ranOf s b r zeroTally)))
+  pub room : howMany b ≤ length words₀
+  pub space : howMany b ≤ length values₀
+  pub gives : RunGives (ranOf s b r zeroTally) words₀ values₀ session tally words values
 
 pub starts-sound : (s : List ℕ) (r : Record) → clear (sheetChecks s) ≡ true → r ≡ freshOf s → Sound s r
 starts-sound s r accepted fresh = subst (Sound s) (sym fresh) (fresh-sound s accepted)
 
-module _ (s b : List ℕ) (r : Record) (codes₀ keys₀ : List ℕ) (session : Record) (tally : Tally) (codes keys : List ℕ) (G : RunGives s b r codes₀ keys₀ session tally codes keys) where
-  codes-in : codes ≡ sets codes₀ 0 (codesOf (ran s b (G .accepted)))
-  codes-in = G .gives .2 ∙ ap (λ (x : Record). sets codes₀ 0 (codesOf (ranOf s b x zeroTally))) (G .fresh)
+module _ (s b : List ℕ) (r : Record) (words₀ values₀ : List ℕ) (session : Record) (tally : Tally) (words values : List ℕ) (G : Ran s b r words₀ values₀ session tally words values) where
+  given : RunGives (ran s b (G .accepted)) words₀ values₀ session tally words values
+  given = subst (λ (x : Record). RunGives (ranOf s b x zeroTally) words₀ values₀ session tally words values) (G .fresh) (G .gives)
 
-  keys-in : keys ≡ sets keys₀ 0 (keysOf (ran s b (G .accepted)))
-  keys-in = G .gives .3 ∙ ap (λ (x : Record). sets keys₀ 0 (keysOf (ranOf s b x zeroTally))) (G .fresh)
-
-  session-in : session ≡ ran s b (G .accepted) .session
-  session-in = G .gives .0 ∙ ap (λ (x : Record). ranOf s b x zeroTally .session) (G .fresh)
-
-  tally-in : tally ≡ ran s b (G .accepted) .tally
-  tally-in = G .gives .1 ∙ ap (λ (x : Record). ranOf s b x zeroTally .tally) (G .fresh)
-
-  pub codes-low : LowCodes codes (howMany b)
-  codes-low = subst (λ (l : List ℕ). LowCodes l (howMany b)) (sym codes-in) (low-stored s b (G .accepted) codes₀ keys₀ (G .room) (G .space))
+  pub values-low : LowValues words values (howMany b)
+  values-low = rw (given .words-are, given .values-are) (low-stored s b (G .accepted) words₀ values₀ (G .room) (G .space))
 
   pub live-low : session .live ≤ maxLive
-  live-low = subst (λ (x : Record). x .live ≤ maxLive) (sym session-in) (few-live s b (G .accepted))
+  live-low = subst (λ (x : Record). x .live ≤ maxLive) (sym (given .session-is)) (few-live s b (G .accepted))
 
   pub bonds-low : session .marking .count ≤ maxBonds
-  bonds-low = subst (λ (x : Record). x .marking .count ≤ maxBonds) (sym session-in) (few-bonds s b (G .accepted))
+  bonds-low = subst (λ (x : Record). x .marking .count ≤ maxBonds) (sym (given .session-is)) (few-bonds s b (G .accepted))
 
   -- the two writers, one after the other, leave the session's text
   pub session-pieces : (buf : List ℕ) {buf₁ buf₂ : List ℕ} {k₁ k₂ : ℕ} (n : ℕ) → n ≡ basesOf s
-      → (k₁ ≡ length (codedLines codes keys (howMany b))) × (buf₁ ≡ sets buf 0 (codedLines codes keys (howMany b)))
-      → (k₂ ≡ k₁ + length (closingOf (journalIn n (session .marking) (session .live) (session .firings)) tally)) × (buf₂ ≡ sets buf₁ k₁ (closingOf (journalIn n (session .marking) (session .live) (session .firings)) tally))
-      → (k₂ ≡ length (sessionText (netOf s) (commandsIn b))) × (buf₂ ≡ sets buf 0 (sessionText (netOf s) (commandsIn b)))
+      → Filled (linesUpto words values (howMany b)) buf k₁ buf₁
+      → Wrote (closingOf (journalIn n (session .marking) (session .live) (session .firings)) tally) k₁ buf₁ k₂ buf₂
+      → Filled (sessionText (netOf s) (commandsIn b)) buf k₂ buf₂
   unfolding sessionText
   session-pieces buf n bases w₁ w₂ =
-      let first = codedLines codes keys (howMany b) in
+      let first = linesUpto words values (howMany b) in
       let last = closingOf (journalIn n (session .marking) (session .live) (session .firings)) tally in
-      let one : first ≡ answerLines 0 (replies s b (G .accepted)) = (λ i. codedLines (codes-in i) (keys-in i) (howMany b)) ∙ lines-stored s b (G .accepted) codes₀ keys₀ (G .room) (G .space) in
+      let one : first ≡ answerLines 0 (replies s b (G .accepted)) = (λ i. linesUpto (given .words-are i) (given .values-are i) (howMany b)) ∙ lines-stored s b (G .accepted) words₀ values₀ (G .room) (G .space) in
       let two : last ≡ closingOf (journal s b (G .accepted)) (tallied (replies s b (G .accepted)) zeroTally) =
-      (λ i. closingOf (journalIn (bases i) (session-in i .marking) (session-in i .live) (session-in i .firings)) (tally-in i))
+      (λ i. closingOf (journalIn (bases i) (given .session-is i .marking) (given .session-is i .live) (given .session-is i .firings)) (given .tally-is i))
       ∙ λ i. closingOf (holds s b (G .accepted) i) (tally-is s b (G .accepted) i) in
       let all = written-more last (written-more first (written-none buf 0) (w₁ .0 ∙ sym (zero-add (length first)), w₁ .1)) w₂ in
       rw (← one, ← two) (all .count ∙ zero-add (length (first ++ last)), all .list)

@@ -16,9 +16,9 @@ use Rattle.tally.specs.declared.Tally.{Tally}
 use Rattle.text.specs.Decimal.{decimal}
 use Rattle.text.specs.Ascii.{ascii}
 use Rattle.closing.specs.Closing.{placesLine, bondLines, liveLine, tallyLine}
-use Rattle.session.specs.Commands.{answerOf, keyOf, countOf}
+use Rattle.session.specs.Commands.{answerOf, keyOf, wordOf}
 use Rattle.runs.specs.Lists.{commandsIn}
-use Rattle.report.specs.Lines.{lineOf}
+use Rattle.report.specs.Lines.{toldLine}
 
 -- ---- The input: the sheet's length in two bytes, the sheet, the commands
 
@@ -41,19 +41,19 @@ abbrev pub sheetRefused : List ℕ
 sheetRefused = ascii "sheet refused "
 
 unfoldable pub refusedSheet : ℕ → List ℕ
-refusedSheet n = sheetRefused ++ decimal n ++ (10 ∷ [])
+refusedSheet n = sheetRefused ++ decimal n ++ ascii "\n"
 
 -- ---- A session: a line for each command, then the closing lines
 
 -- the answers' lines; the first has the number k + 1
 abbrev pub answerLines : ℕ → List J.Answer → List ℕ
 answerLines k [] = []
-answerLines k (a ∷ rest) = lineOf (suc k) (answerOf a) (keyOf a) ++ answerLines (suc k) rest
+answerLines k (a ∷ rest) = toldLine (suc k) (answerOf a) (keyOf a) ++ answerLines (suc k) rest
 
 -- the tally after the answers: each command adds one to one count
 abbrev pub tallied : List J.Answer → Tally → Tally
 tallied [] t = t
-tallied (a ∷ rest) t = tallied rest (countedOf t (countOf (answerOf a)))
+tallied (a ∷ rest) t = tallied rest (countedOf t (wordOf (answerOf a)))
 
 -- the serials of the live firings, in their order
 abbrev pub keysLive : List LiveLine → List ℕ

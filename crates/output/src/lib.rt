@@ -4,7 +4,6 @@ ghost use mathlib.Core.Path.{_≡_};
 ghost use mathlib.Core.Bool.{true};
 ghost use Prim.Native.Nat.{_+_, _*_, _<_, _≤_};
 ghost use lib.ListN.{length, take, drop};
-ghost use lib.Seq.{sets};
 ghost use Rattle.net.specs.Limits.{maxBases, maxBonds, maxLive};
 ghost use Rattle.net.specs.Checks.{clear};
 ghost use Rattle.format.specs.NetOf.{netOf};
@@ -13,9 +12,10 @@ ghost use Rattle.closing.specs.Closing.{placesLine, liveLine};
 ghost use Rattle.sound.specs.Soundness.{journalIn};
 ghost use Rattle.session.specs.Commands.{freshOf};
 ghost use Rattle.runs.specs.Lists.{commandsIn};
-ghost use Rattle.report.specs.Lines.{valueLimit, minLine};
+ghost use Rattle.text.specs.Writes.{Wrote, Filled};
+ghost use Rattle.report.specs.Lines.{minLine};
 ghost use Rattle.output.specs.Output.{maxCommands, sheetIn, commandBytes, refusedSheet, closingOf, sessionText, output};
-ghost use Rattle.output.specs.Coded.{codedLine, codedLines, LowCodes, keysIn, placesRoom, liveRoom, closingRoom, maxOutput};
+ghost use Rattle.output.specs.Said.{linesUpto, LowValues, keysIn, placesRoom, liveRoom, closingRoom, maxOutput};
 use closing::put_bonds;
 use closing::put_live;
 use closing::put_places;
@@ -70,31 +70,16 @@ fn commands_in<'a>(input: &'a [u8]) -> &'a [u8]
     bytes_from(input, 2 + length, 3 * MAX_COMMANDS)
 }
 
-// The line of an answer that is given as its code and its key. `put_answers` sees to the room and to the code.
-fn put_coded(buf: &mut [u8], at: usize, number: u32, code: u16, key: u16) -> usize
-    requires { ⌜ (at + minLine ≤ length (now buf)) × (code < valueLimit 2) ⌝ }
-    ensures { λ r. ⌜ (r ≡ at + length (codedLine number code key)) × (now (buf .exit) ≡ sets (now (buf .entry)) at (codedLine number code key)) ⌝ }
-    ensures { λ r. ⌜ r ≤ at + minLine ⌝ }
-{
-    if code == 0 {
-        return put_line(buf, at, number, 0, key);
-    }
-    if code == 1 {
-        return put_line(buf, at, number, 1, key);
-    }
-    put_line(buf, at, number, 2, code)
-}
-
-// The first n answers, numbered from 1. `put_session` sees to the room; every code of a command is below 22.
-fn put_answers(buf: &mut [u8], codes: &[u16], keys: &[u16], n: usize) -> usize
-    requires { ⌜ (minLine * n ≤ length (now buf)) × (n ≤ maxCommands) × (n ≤ length (now codes)) × (n ≤ length (now keys)) × LowCodes (now codes) n ⌝ }
-    ensures { λ r. ⌜ (r ≡ length (codedLines (now (codes .entry)) (now (keys .entry)) n)) × (now (buf .exit) ≡ sets (now (buf .entry)) 0 (codedLines (now (codes .entry)) (now (keys .entry)) n)) ⌝ }
+// The first n answers, numbered from 1. `put_session` sees to the room and to the values.
+fn put_answers(buf: &mut [u8], words: &[u8], values: &[u16], n: usize) -> usize
+    requires { ⌜ (minLine * n ≤ length (now buf)) × (n ≤ maxCommands) × (n ≤ length (now words)) × (n ≤ length (now values)) × LowValues (now words) (now values) n ⌝ }
+    ensures { λ r. ⌜ Filled (linesUpto (now (words .entry)) (now (values .entry)) n) (now (buf .entry)) r (now (buf .exit)) ⌝ }
     ensures { λ r. ⌜ r ≤ minLine * n ⌝ }
 {
     let mut pos = 0;
     let mut i = 0;
     while i < n {
-        pos = put_coded(buf, pos, (i + 1) as u32, codes[i], keys[i]);
+        pos = put_line(buf, pos, (i + 1) as u32, words[i], values[i]);
         i += 1;
     }
     pos
@@ -137,7 +122,7 @@ fn keys_of(firings: [Firing; MAX_LIVE]) -> [u16; MAX_LIVE]
 // `places` and the places of the first n bases. `put_closing` sees to the room, as for the function below.
 fn put_base_places(buf: &mut [u8], at: usize, places: [Place; MAX_BASES], n: usize) -> usize
     requires { ⌜ (at + placesRoom ≤ length (now buf)) × (n ≤ maxBases) ⌝ }
-    ensures { λ r. ⌜ (r ≡ at + length (placesLine (take n places))) × (now (buf .exit) ≡ sets (now (buf .entry)) at (placesLine (take n places))) ⌝ }
+    ensures { λ r. ⌜ Wrote (placesLine (take n places)) at (now (buf .entry)) r (now (buf .exit)) ⌝ }
     ensures { λ r. ⌜ r ≤ at + placesRoom ⌝ }
 {
     let wide = widened(places);
@@ -147,7 +132,7 @@ fn put_base_places(buf: &mut [u8], at: usize, places: [Place; MAX_BASES], n: usi
 // `live` and the keys of the first n firings.
 fn put_live_keys(buf: &mut [u8], at: usize, firings: [Firing; MAX_LIVE], n: usize) -> usize
     requires { ⌜ (at + liveRoom ≤ length (now buf)) × (n ≤ maxLive) ⌝ }
-    ensures { λ r. ⌜ (r ≡ at + length (liveLine (keysIn firings n))) × (now (buf .exit) ≡ sets (now (buf .entry)) at (liveLine (keysIn firings n))) ⌝ }
+    ensures { λ r. ⌜ Wrote (liveLine (keysIn firings n)) at (now (buf .entry)) r (now (buf .exit)) ⌝ }
     ensures { λ r. ⌜ r ≤ at + liveRoom ⌝ }
 {
     let keys = keys_of(firings);
@@ -157,7 +142,7 @@ fn put_live_keys(buf: &mut [u8], at: usize, firings: [Firing; MAX_LIVE], n: usiz
 // The closing lines of what a record holds. `put_session` has a sound record and sees to the room.
 fn put_closing(buf: &mut [u8], at: usize, bases: usize, r: Record, t: Tally) -> usize
     requires { ⌜ (at + closingRoom ≤ length (now buf)) × (bases ≤ maxBases) × (r .marking .count ≤ maxBonds) × (r .live ≤ maxLive) ⌝ }
-    ensures { λ x. ⌜ (x ≡ at + length (closingOf (journalIn bases (r .marking) (r .live) (r .firings)) t)) × (now (buf .exit) ≡ sets (now (buf .entry)) at (closingOf (journalIn bases (r .marking) (r .live) (r .firings)) t)) ⌝ }
+    ensures { λ x. ⌜ Wrote (closingOf (journalIn bases (r .marking) (r .live) (r .firings)) t) at (now (buf .entry)) x (now (buf .exit)) ⌝ }
     ensures { λ x. ⌜ x ≤ at + closingRoom ⌝ }
 {
     let m = r.marking;
@@ -173,8 +158,14 @@ fn put_closing(buf: &mut [u8], at: usize, bases: usize, r: Record, t: Tally) -> 
     put_tally(buf, c, t.fired, t.undone, t.refused)
 }
 
-// Room for a code or a key of each command. Only its length matters.
-fn command_room() -> [u16; MAX_COMMANDS]
+// Room for a word and for a value of each command. Only the lengths matter.
+fn word_room() -> [u8; MAX_COMMANDS]
+    ensures { λ r. ⌜ maxCommands ≡ length r ⌝ }
+{
+    [0; MAX_COMMANDS]
+}
+
+fn value_room() -> [u16; MAX_COMMANDS]
     ensures { λ r. ⌜ maxCommands ≡ length r ⌝ }
 {
     [0; MAX_COMMANDS]
@@ -183,19 +174,19 @@ fn command_room() -> [u16; MAX_COMMANDS]
 // A session on an accepted sheet, from a fresh record and a tally of zeros. `write_output` has started it.
 fn put_session(buf: &mut [u8], sheet: &[u8], commands: &[u8], r: Record) -> usize
     requires { ⌜ (maxOutput ≤ length (now buf)) × (length (now commands) ≤ 3 * maxCommands) × (clear (sheetChecks (now sheet)) ≡ true) × (r ≡ freshOf (now sheet)) ⌝ }
-    ensures { λ r. ⌜ (r ≡ length (sessionText (netOf (now (sheet .entry))) (commandsIn (now (commands .entry))))) × (now (buf .exit) ≡ sets (now (buf .entry)) 0 (sessionText (netOf (now (sheet .entry))) (commandsIn (now (commands .entry))))) ⌝ }
+    ensures { λ r. ⌜ Filled (sessionText (netOf (now (sheet .entry))) (commandsIn (now (commands .entry)))) (now (buf .entry)) r (now (buf .exit)) ⌝ }
     ensures { λ r. ⌜ r ≤ maxOutput ⌝ }
 {
-    let mut codes = command_room();
-    let mut keys = command_room();
+    let mut words = word_room();
+    let mut values = value_room();
     let zero = Tally {
         fired: 0,
         undone: 0,
         refused: 0,
     };
-    let ran = run(r, sheet, commands, zero, &mut codes, &mut keys);
+    let ran = run(r, sheet, commands, zero, &mut words, &mut values);
     let n = (commands.len() + 2) / 3;
-    let at = put_answers(buf, &codes, &keys, n);
+    let at = put_answers(buf, &words, &values, n);
     let bases = base_count(sheet) as usize;
     let session = ran.session;
     let tally = ran.tally;
@@ -205,7 +196,7 @@ fn put_session(buf: &mut [u8], sheet: &[u8], commands: &[u8], r: Record) -> usiz
 // `sheet refused` and the number. `write_output` sees to the room.
 fn put_refused(buf: &mut [u8], n: u8) -> usize
     requires { ⌜ maxOutput ≤ length (now buf) ⌝ }
-    ensures { λ r. ⌜ (r ≡ length (refusedSheet n)) × (now (buf .exit) ≡ sets (now (buf .entry)) 0 (refusedSheet n)) ⌝ }
+    ensures { λ r. ⌜ Filled (refusedSheet n) (now (buf .entry)) r (now (buf .exit)) ⌝ }
     ensures { λ r. ⌜ r ≤ maxOutput ⌝ }
 {
     let a = put_word(buf, 0, b"sheet refused ");
@@ -216,7 +207,7 @@ fn put_refused(buf: &mut [u8], n: u8) -> usize
 // The whole output, from byte 0 on; the rest of the buffer stays as it was. The program lends a buffer of MAX_OUTPUT bytes.
 pub fn write_output(input: &[u8], buf: &mut [u8]) -> usize
     requires { ⌜ maxOutput ≤ length (now buf) ⌝ }
-    ensures { λ r. ⌜ (r ≡ length (output (now (input .entry)))) × (now (buf .exit) ≡ sets (now (buf .entry)) 0 (output (now (input .entry)))) ⌝ }
+    ensures { λ r. ⌜ Filled (output (now (input .entry))) (now (buf .entry)) r (now (buf .exit)) ⌝ }
     ensures { λ r. ⌜ r ≤ maxOutput ⌝ }
 {
     let sheet = sheet_in(input);

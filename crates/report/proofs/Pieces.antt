@@ -6,18 +6,20 @@ use native.Mathlib.Omega.{arith}
 use native.Mathlib.Nat.{zero-add}
 use mathlib.Core.Bool.{Bool, true, false}
 use mathlib.Core.List.{List, [], _∷_}
-use lib.Dec.{eqb}
+use lib.Dec.{eqb, ltb}
 use lib.ListN.{length}
 use borrow.Author.Tests.{lt-ltb, le-ltb, eq-eqb, ne-eqb, eqb-true, eqb-false}
 use Rattle.text.specs.Decimal.{digits, decimal}
 use Rattle.text.specs.Writes.{Wrote, Filled}
 use Rattle.text.proofs.Writes.{written-none, written-more, written-pair}
 use Rattle.text.specs.Ascii.{ascii}
+use Rattle.causal.proofs.Tests.{both}
+use Rattle.net.specs.Tests.{pick}
 use Rattle.net.specs.declared.Key.{Key}
 use Rattle.session.specs.Commands.{wordOf, valueOf, valueBound}
 use Rattle.session.specs.declared.Answer.{Answer}
 use Rattle.session.specs.declared.Answer.the-variants.{Fired, Undone, Refused}
-use Rattle.report.specs.Lines.{wordText, answerLine, toldLine, valueLimit}
+use Rattle.report.specs.Lines.{wordText, answerLine, toldLine, valueLimit, LowValue}
 use Rattle.report.proofs.Places.{digits-few, decimal-five}
 
 -- ---- One word at a time
@@ -70,6 +72,14 @@ module _ (w v : ℕ) (h : v < valueLimit w) where
   pub room : Room w v
   room = room-by (eqb w 0) (eqb w 1) refl refl
 
+-- a number of 16 bits is below its word's limit where a refusal's number is low
+pub below-limit : (w v : ℕ) → v < 65536 → LowValue w v → v < valueLimit w
+below-limit w v h low = go (ltb w 2) refl
+  where
+    go : (b : Bool) → ltb w 2 ≡ b → v < pick b 65536 1000
+    go true e = h
+    go false e = low e
+
 -- ---- The whole
 
 -- the four writers, one after the other, leave the line
@@ -83,10 +93,10 @@ pieces b at n w v h w₁ w₂ w₃ w₄ =
 -- ---- The answer
 
 -- what is known of an answer's value is what its line asks
-pub value-low : (a : Answer) (v : ℕ) → v < valueBound a → v < valueLimit (wordOf a)
-value-low Fired v h = h
-value-low Undone v h = h
-value-low (Refused n) v h = omega (arith, h)
+pub value-low : (a : Answer) (v : ℕ) → v < valueBound a → LowValue (wordOf a) v
+value-low Fired v h e = both true refl e
+value-low Undone v h e = both true refl e
+value-low (Refused n) v h e = omega (arith, h)
 
 -- what was written from byte 0 on for its word and its value is the answer's line
 pub told : (b : List ℕ) {b′ : List ℕ} {r : ℕ} (n w v : ℕ) (a : Answer) (k : Key) → w ≡ wordOf a → v ≡ valueOf a k → Wrote (answerLine n w v) 0 b r b′ → Filled (toldLine n a k) b r b′

@@ -1,6 +1,8 @@
 -- The answer line and the buffer that it is written into (01, the exam program).
 -- Definitions only.
-use Prim.Native.Nat.{ℕ}
+use mathlib.Core.Path.{_≡_}
+use mathlib.Core.Bool.{false}
+use Prim.Native.Nat.{ℕ, _<_}
 use mathlib.Core.List.{List, _++_}
 use lib.Dec.{ltb, eqb}
 use lib.ListN.{length}
@@ -30,6 +32,10 @@ toldLine number a k = answerLine number (wordOf a) (valueOf a k)
 -- the values that a line has room for, by the word: a serial has 16 bits, a refusal's number at most three digits
 abbrev pub valueLimit : ℕ → ℕ
 valueLimit word = pick (ltb word 2) 65536 1000
+
+-- so a writer of a line asks only that a refusal's number is that low
+abbrev pub LowValue : ℕ → ℕ → Type 0
+LowValue word value = ltb word 2 ≡ false → value < 1000
 
 -- ---- The buffer
 

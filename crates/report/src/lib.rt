@@ -4,7 +4,7 @@ ghost use mathlib.Core.Path.{_≡_};
 ghost use Prim.Native.Nat.{_+_, _≤_, _<_};
 ghost use lib.ListN.{length};
 ghost use Rattle.text.specs.Writes.{Wrote};
-ghost use Rattle.report.specs.Lines.{wordText, answerLine, valueLimit, minLine, writtenOf, bufferOf};
+ghost use Rattle.report.specs.Lines.{wordText, answerLine, LowValue, minLine, writtenOf, bufferOf};
 use net::Key;
 use session::Answer;
 use session::value_of;
@@ -38,7 +38,7 @@ fn put_answer(buf: &mut [u8], at: usize, word: u8) -> usize
 // The line, from `at` on. Answers where it ends. `answer_line` and the whole output see to the room and to the value: a
 // refusal's number has at most three digits (01, the exam program).
 pub fn put_line(buf: &mut [u8], at: usize, number: u32, word: u8, value: u16) -> usize
-    requires { ⌜ (at + minLine ≤ length (now buf)) × (value < valueLimit word) ⌝ }
+    requires { ⌜ (at + minLine ≤ length (now buf)) × LowValue word value ⌝ }
     ensures { λ r. ⌜ Wrote (answerLine number word value) at (now (buf .entry)) r (now (buf .exit)) ⌝ }
     ensures { λ r. ⌜ r ≤ at + minLine ⌝ }
 {

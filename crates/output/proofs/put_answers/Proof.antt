@@ -12,43 +12,40 @@ use Rattle.text.proofs.Writes.{Written, written-none}
 use Rattle.text.proofs.Joined.{table-written}
 use Rattle.report.specs.Lines.{minLine}
 use Rattle.output.specs.Output.{maxCommands}
-use Rattle.output.specs.Coded.{codedAt, LowCodes}
+use Rattle.output.specs.Said.{lineAt, LowValues}
 use Rattle.output.proofs.put_answers.Statement.{statement}
 use Rattle.output.proofs.put_answers.Tie as tie
 
 abbrev Inv-loop : tie.InvT-loop
-Inv-loop buf₀ codes keys n pos₀ i₀ buf pos i =
-    (i ≤ n) × (minLine * n ≤ length buf₀) × (n ≤ maxCommands) × (n ≤ length codes) × (n ≤ length keys) × LowCodes codes n × (length buf ≡ length buf₀) × (pos ≤ minLine * i)
-    × Written buf₀ 0 (joined (table i (codedAt codes keys))) pos buf
+Inv-loop buf₀ words values n pos₀ i₀ buf pos i =
+    (i ≤ n) × (minLine * n ≤ length buf₀) × (n ≤ maxCommands) × (n ≤ length words) × (n ≤ length values) × LowValues words values n × (length buf ≡ length buf₀) × (pos ≤ minLine * i)
+    × Written buf₀ 0 (joined (table i (lineAt words values))) pos buf
 
 abbrev μ-loop : tie.MeasureT-loop
-μ-loop buf₀ codes keys n pos₀ i₀ buf pos i = n - i
+μ-loop buf₀ words values n pos₀ i₀ buf pos i = n - i
 
 loop-holds : tie.Need-loop-holds Inv-loop μ-loop
 loop-holds c =
     let from = c .before .before .before in
     (search needs, search needs, search needs, search needs, search needs, from .pre .4, search needs, search needs, written-none _ _)
 
-add-put-coded : tie.Need-add-put-coded Inv-loop μ-loop
-add-put-coded c = search needs
+add-put-line : tie.Need-add-put-line Inv-loop μ-loop
+add-put-line c = search needs
 
-cast-put-coded : tie.Need-cast-put-coded Inv-loop μ-loop
-cast-put-coded c = search needs
+cast-put-line : tie.Need-cast-put-line Inv-loop μ-loop
+cast-put-line c = search needs
 
-mul-put-coded : tie.Need-mul-put-coded Inv-loop μ-loop
-mul-put-coded c = search needs
+mul-put-line : tie.Need-mul-put-line Inv-loop μ-loop
+mul-put-line c = search needs
 
-shared-slice-read-put-coded : tie.Need-shared-slice-read-put-coded Inv-loop μ-loop
-shared-slice-read-put-coded c = search needs
+shared-slice-read-put-line : tie.Need-shared-slice-read-put-line Inv-loop μ-loop
+shared-slice-read-put-line c = search needs
 
-mul-put-coded-2 : tie.Need-mul-put-coded-2 Inv-loop μ-loop
-mul-put-coded-2 c = search needs
+shared-slice-read-put-line-2 : tie.Need-shared-slice-read-put-line-2 Inv-loop μ-loop
+shared-slice-read-put-line-2 c = search needs
 
-shared-slice-read-put-coded-2 : tie.Need-shared-slice-read-put-coded-2 Inv-loop μ-loop
-shared-slice-read-put-coded-2 c = search needs
-
-put-coded-requires : tie.Need-put-coded-requires Inv-loop μ-loop
-put-coded-requires c κs =
+put-line-requires : tie.Need-put-line-requires Inv-loop μ-loop
+put-line-requires c κs =
     let at : tie.At-loop Inv-loop μ-loop = c .before .before .before .before in
     (search needs, at .loop .inv .5 (at .loop .i) (c .before .before .before .loop-test .taken))
 
@@ -62,7 +59,7 @@ loop-again : tie.Need-loop-again Inv-loop μ-loop
 loop-again c =
     let at : tie.At-loop Inv-loop μ-loop = c .before .before .before .before .before .before .before in
     let from = c .before .before .before .before .before .before .before .before .before .before .before in
-    let done = c .before .before .put-coded .ensures in (
+    let done = c .before .before .put-line .ensures in (
       search needs,
       search needs,
       search needs,
@@ -71,7 +68,7 @@ loop-again c =
       at .loop .inv .5,
       search needs,
       omega (arith, done .1, at .loop .inv .7),
-      table-written (codedAt (from .args .codes .now) (from .args .keys .now)) (at .loop .i) (at .loop .inv .8) (done .0),
+      table-written (lineAt (from .args .words .now) (from .args .values .now)) (at .loop .i) (at .loop .inv .8) (done .0),
     )
 
 same-length : tie.Need-same-length Inv-loop μ-loop
@@ -92,13 +89,12 @@ put-answers-spec =
     Inv-loop
     μ-loop
     loop-holds
-    add-put-coded
-    cast-put-coded
-    mul-put-coded
-    shared-slice-read-put-coded
-    mul-put-coded-2
-    shared-slice-read-put-coded-2
-    put-coded-requires
+    add-put-line
+    cast-put-line
+    shared-slice-read-put-line
+    mul-put-line
+    shared-slice-read-put-line-2
+    put-line-requires
     add-i
     loop-less
     loop-again

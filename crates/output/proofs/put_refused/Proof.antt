@@ -3,7 +3,7 @@
 use borrow.Author.Needs.{needs}
 use native.Mathlib.Omega.{arith}
 use Rattle.text.proofs.Digits.{digits-length}
-use Rattle.output.proofs.Codes.{refused-pieces}
+use Rattle.output.proofs.Answers.{refused-pieces}
 use Rattle.output.proofs.put_refused.Statement.{statement}
 use Rattle.output.proofs.put_refused.Tie as tie
 

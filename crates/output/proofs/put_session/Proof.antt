@@ -6,15 +6,15 @@ use Prim.Native.Nat.{_≤_}
 use Rattle.sheet.proofs.Accepted.{promised}
 use Rattle.runs.specs.Lists.{howMany}
 use Rattle.output.specs.Output.{maxCommands}
-use Rattle.output.proofs.Sessions.{RunGives, starts-sound, codes-low, live-low, bonds-low, session-pieces}
+use Rattle.output.proofs.Sessions.{Ran, starts-sound, values-low, live-low, bonds-low, session-pieces}
 use Rattle.output.proofs.put_session.Statement.{statement}
 use Rattle.output.proofs.put_session.Tie as tie
 
-command-room-requires : tie.Need-command-room-requires
-command-room-requires c κs = search needs
+word-room-requires : tie.Need-word-room-requires
+word-room-requires c κs = search needs
 
-command-room-requires-2 : tie.Need-command-room-requires-2
-command-room-requires-2 c κs = search needs
+value-room-requires : tie.Need-value-room-requires
+value-room-requires c κs = search needs
 
 slice-aggregate-run : tie.Need-slice-aggregate-run
 slice-aggregate-run c = search needs
@@ -26,8 +26,8 @@ run-requires : tie.Need-run-requires
 run-requires c κs =
     let from = c .before .before .before .before .before .before .before in
     let few : howMany (from .args .commands .now) ≤ maxCommands = omega arith in
-    let codes = c .before .before .before .command-room .ensures in
-    let keys = c .before .before .command-room2 .ensures in
+    let words = c .before .before .before .word-room .ensures in
+    let values = c .before .before .value-room .ensures in
     (starts-sound (from .args .sheet .now) (from .args .r) (from .pre .2) (from .pre .3), omega arith, omega arith)
 
 add-n : tie.Need-add-n
@@ -45,16 +45,16 @@ put-answers-requires c κs =
     let b = from .args .commands .now in
     let few : howMany b ≤ maxCommands = omega arith in
     let done = c .before .before .before .before .before .run in
-    let codes = c .before .before .before .before .before .before .before .before .before .command-room .ensures in
-    let keys = c .before .before .before .before .before .before .before .before .command-room2 .ensures in
-    let given : RunGives (from .args .sheet .now) b (from .args .r) (c .before .before .before .before .before .before .before .before .before .command-room .result) (c .before .before .before .before .before .before .before .before .command-room2 .result) (done .result .session) (done .result .tally) _ _ = record {
+    let words = c .before .before .before .before .before .before .before .before .before .word-room .ensures in
+    let values = c .before .before .before .before .before .before .before .before .value-room .ensures in
+    let given : Ran (from .args .sheet .now) b (from .args .r) (c .before .before .before .before .before .before .before .before .before .word-room .result) (c .before .before .before .before .before .before .before .before .value-room .result) (done .result .session) (done .result .tally) _ _ = record {
       accepted = from .pre .2;
       fresh = from .pre .3;
       room = omega arith;
       space = omega arith;
       gives = done .ensures;
     } in
-    (omega arith, few, search needs, search needs, codes-low _ b _ _ _ _ _ _ _ given)
+    (omega arith, few, search needs, search needs, values-low _ b _ _ _ _ _ _ _ given)
 
 base-count-requires : tie.Need-base-count-requires
 base-count-requires c κs = search needs
@@ -68,9 +68,9 @@ put-closing-requires c κs =
     let b = from .args .commands .now in
     let few : howMany b ≤ maxCommands = omega arith in
     let done = c .before .before .before .before .before .before .before .before .before .before .before .before .run in
-    let codes = c .before .before .before .before .before .before .before .before .before .before .before .before .before .before .before .before .command-room .ensures in
-    let keys = c .before .before .before .before .before .before .before .before .before .before .before .before .before .before .before .command-room2 .ensures in
-    let given : RunGives (from .args .sheet .now) b (from .args .r) (c .before .before .before .before .before .before .before .before .before .before .before .before .before .before .before .before .command-room .result) (c .before .before .before .before .before .before .before .before .before .before .before .before .before .before .before .command-room2 .result) (done .result .session) (done .result .tally) _ _ = record {
+    let words = c .before .before .before .before .before .before .before .before .before .before .before .before .before .before .before .before .word-room .ensures in
+    let values = c .before .before .before .before .before .before .before .before .before .before .before .before .before .before .before .value-room .ensures in
+    let given : Ran (from .args .sheet .now) b (from .args .r) (c .before .before .before .before .before .before .before .before .before .before .before .before .before .before .before .before .word-room .result) (c .before .before .before .before .before .before .before .before .before .before .before .before .before .before .before .value-room .result) (done .result .session) (done .result .tally) _ _ = record {
       accepted = from .pre .2;
       fresh = from .pre .3;
       room = omega arith;
@@ -90,9 +90,9 @@ returns c =
     let b = from .args .commands .now in
     let few : howMany b ≤ maxCommands = omega arith in
     let done = c .before .before .before .before .before .before .before .before .before .before .before .before .before .before .before .run in
-    let codes = c .before .before .before .before .before .before .before .before .before .before .before .before .before .before .before .before .before .before .before .command-room .ensures in
-    let keys = c .before .before .before .before .before .before .before .before .before .before .before .before .before .before .before .before .before .before .command-room2 .ensures in
-    let given : RunGives (from .args .sheet .now) b (from .args .r) (c .before .before .before .before .before .before .before .before .before .before .before .before .before .before .before .before .before .before .before .command-room .result) (c .before .before .before .before .before .before .before .before .before .before .before .before .before .before .before .before .before .before .command-room2 .result) (done .result .session) (done .result .tally) _ _ = record {
+    let words = c .before .before .before .before .before .before .before .before .before .before .before .before .before .before .before .before .before .before .before .word-room .ensures in
+    let values = c .before .before .before .before .before .before .before .before .before .before .before .before .before .before .before .before .before .before .value-room .ensures in
+    let given : Ran (from .args .sheet .now) b (from .args .r) (c .before .before .before .before .before .before .before .before .before .before .before .before .before .before .before .before .before .before .before .word-room .result) (c .before .before .before .before .before .before .before .before .before .before .before .before .before .before .before .before .before .before .value-room .result) (done .result .session) (done .result .tally) _ _ = record {
       accepted = from .pre .2;
       fresh = from .pre .3;
       room = omega arith;
@@ -107,8 +107,8 @@ pub put-session-spec : {M : Type 1} → statement M
 put-session-spec =
     tie.close
     (tie.spec
-    command-room-requires
-    command-room-requires-2
+    word-room-requires
+    value-room-requires
     slice-aggregate-run
     slice-aggregate-run-2
     run-requires

@@ -20,7 +20,7 @@ commands-in-requires c κs = search needs
 put-session-requires : tie.Need-put-session-requires
 put-session-requires c κs =
     let sheet = c .before .before .before .before .before .before .sheet-in .result .now in
-    let told = start-accepted sheet (c .before .before .before .before .before .start .result) (c .before .before .before .before .before .start .ensures) (c .before .before .before .enum-told .given .1) in
+    let told = start-accepted sheet (c .before .before .before .before .before .start .result) (c .before .before .before .before .before .start .ensures .0) (c .before .before .before .enum-told .given .1) in
     (c .before .before .before .before .before .before .before .before .before .pre, few-bytes (c .before .before .before .before .before .before .before .before .before .args .input .now) _ (c .before .before .commands-in .ensures), told .0, told .1)
 
 enum-known-answer : tie.Need-enum-known-answer
@@ -36,7 +36,7 @@ returns : tie.Need-returns
 returns c =
     let input = c .before .before .before .before .before .before .before .before .before .before .before .before .args .input .now in
     let sheet = c .before .before .before .before .before .before .before .before .before .sheet-in .result .now in
-    let told = start-accepted sheet (c .before .before .before .before .before .before .before .before .start .result) (c .before .before .before .before .before .before .before .before .start .ensures) (c .before .before .before .before .before .before .enum-told .given .1) in
+    let told = start-accepted sheet (c .before .before .before .before .before .before .before .before .start .result) (c .before .before .before .before .before .before .before .before .start .ensures .0) (c .before .before .before .before .before .before .enum-told .given .1) in
     (written-accepted input sheet _ (c .before .before .before .before .before .before .before .before .before .before .before .before .args .buf .now) (c .before .before .before .before .before .before .before .before .before .sheet-in .ensures) (c .before .before .before .before .before .commands-in .ensures) (told .0) (c .before .before .put-session .ensures .0), c .before .before .put-session .ensures .1)
 
 same-length-2 : tie.Need-same-length-2
@@ -46,7 +46,7 @@ returns-2 : tie.Need-returns-2
 returns-2 c =
     let input = c .before .before .before .before .before .before .before .before .before .before .before .args .input .now in
     let sheet = c .before .before .before .before .before .before .before .before .sheet-in .result .now in
-    let told = start-refused sheet (c .before .before .before .before .before .before .before .start .result) (c .before .before .before .before .before .before .before .start .ensures) _ (c .before .before .before .before .before .answer .given .1) in
+    let told = start-refused sheet (c .before .before .before .before .before .before .before .start .result) (c .before .before .before .before .before .before .before .start .ensures .0) _ (c .before .before .before .before .before .answer .given .1) in
     (written-refused input sheet _ (c .before .before .before .before .before .before .before .before .before .before .before .args .buf .now) (c .before .before .before .before .before .before .before .before .sheet-in .ensures) (told .0) (told .1) (c .before .before .put-refused .ensures .0), c .before .before .put-refused .ensures .1)
 
 pub write-output-spec : {M : Type 1} → statement M

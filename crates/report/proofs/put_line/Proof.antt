@@ -1,9 +1,10 @@
 -- `report::put_line` meets its contract.
 -- Assumes nothing but the laws of proofs/.
 use Rattle.text.proofs.Digits.{digits-length}
-use Rattle.report.proofs.Pieces.{room, pieces}
+use Rattle.report.proofs.Pieces.{room, below-limit, pieces}
 use Rattle.report.proofs.Whole.{words-fit}
 use native.Mathlib.Omega.{arith}
+use Prim.Native.Nat.{_<_}
 use borrow.Author.Needs.{needs}
 use Rattle.report.proofs.put_line.Statement.{statement}
 use Rattle.report.proofs.put_line.Tie as tie
@@ -17,7 +18,8 @@ put-answer-requires c κs = omega (arith, digits-length 10 (c .before .before .b
 put-digits-requires-2 : tie.Need-put-digits-requires-2
 put-digits-requires-2 c κs =
     let from = c .before .before .before .before .before .before .before .before .before .before in
-    omega (arith, digits-length 10 (from .args .number), room (from .args .word) (from .args .value) (from .pre .1) .0)
+    let small : from .args .value < 65536 = search needs in
+    omega (arith, digits-length 10 (from .args .number), room (from .args .word) (from .args .value) (below-limit (from .args .word) (from .args .value) small (from .pre .1)) .0)
 
 slice-aggregate-put-word : tie.Need-slice-aggregate-put-word
 slice-aggregate-put-word c = search needs
@@ -25,7 +27,8 @@ slice-aggregate-put-word c = search needs
 put-word-requires : tie.Need-put-word-requires
 put-word-requires c κs =
     let from = c .before .before .before .before .before .before .before .before .before .before .before .before .before .before .before in
-    omega (arith, digits-length 10 (from .args .number), room (from .args .word) (from .args .value) (from .pre .1) .2)
+    let small : from .args .value < 65536 = search needs in
+    omega (arith, digits-length 10 (from .args .number), room (from .args .word) (from .args .value) (below-limit (from .args .word) (from .args .value) small (from .pre .1)) .2)
 
 same-length : tie.Need-same-length
 same-length c = search needs
@@ -33,7 +36,8 @@ same-length c = search needs
 returns : tie.Need-returns
 returns c =
     let from = c .before .before .before .before .before .before .before .before .before .before .before .before .before .before .before .before .before .before in
-    let low = from .pre .1 in
+    let small : from .args .value < 65536 = search needs in
+    let low = below-limit (from .args .word) (from .args .value) small (from .pre .1) in
     let all = pieces (from .args .buf .now) (from .args .at) (from .args .number) (from .args .word) (from .args .value) (room (from .args .word) (from .args .value) low .1) (c .before .before .before .before .before .before .before .before .before .before .before .before .before .before .before .put-digits .ensures) (c .before .before .before .before .before .before .before .before .before .before .before .put-answer .ensures) (c .before .before .before .before .before .before .before .put-digits2 .ensures) (c .before .before .put-word .ensures) in
     (all, omega (arith, all .0, words-fit (from .args .number) (from .args .word) (from .args .value) low))
 

@@ -23,7 +23,7 @@ returns c =
     let own : tie.After-perform = c .before .before .before .before in
     let from = own .before .before .before in
     stepped (from .args .sheet .now) (from .args .r) (from .pre) (from .args .t) (from .args .bytes .now) _ (own .perform .ensures)
-    _ (c .before .before .before .word-of .ensures) _ (c .before .before .value-of .ensures) _ (c .before .counted .ensures)
+    _ (c .before .before .before .word-of .ensures) _ (c .before .before .value-of .ensures .0) _ (c .before .counted .ensures)
 
 pub step-with-spec : {M : Type 1} → statement M
 step-with-spec =
