@@ -4,3 +4,4 @@ pub mod Closing
 pub mod Sessions
 pub mod Starts
 pub mod Samples
+pub mod Input

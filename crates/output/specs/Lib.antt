@@ -2,3 +2,4 @@
 pub mod Output
 pub mod Said
 pub mod Samples
+pub mod Input

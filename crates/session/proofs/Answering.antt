@@ -36,6 +36,9 @@ sheet-positive s = from-positive s 0 (transitionsOf s)
 pub sheet-clear : (s : List ℕ) (n : ℕ) → n ≡ first (sheetChecks s) → n ≡ 0 → clear (sheetChecks s) ≡ true
 sheet-clear s n e z = clear-first (sheetChecks s) (sheet-positive s) ∙ ap (λ (k : ℕ). eqb k 0) (sym e) ∙ eq-eqb n 0 z
 
+pub sheet-held : (s : List ℕ) (n : ℕ) → n ≡ first (sheetChecks s) → (n ≡ 0 → ⊥) → clear (sheetChecks s) ≡ false
+sheet-held s n e h = clear-first (sheetChecks s) (sheet-positive s) ∙ ap (λ (k : ℕ). eqb k 0) (sym e) ∙ ne-eqb n 0 h
+
 -- ---- the three answers
 
 module _ (s : List ℕ) (r : Record) (c : List ℕ) where

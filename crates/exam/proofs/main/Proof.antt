@@ -11,36 +11,14 @@ use Rattle.exam.proofs.main.Tie as tie
 input-room-requires : tie.Need-input-room-requires
 input-room-requires c κs = search needs
 
-slice-aggregate-read-full : tie.Need-slice-aggregate-read-full
-slice-aggregate-read-full c = search needs
+slice-aggregate-read-input : tie.Need-slice-aggregate-read-input
+slice-aggregate-read-input c = search needs
 
-read-full-requires : tie.Need-read-full-requires
-read-full-requires c κs = search needs
-
-output-room-requires : tie.Need-output-room-requires
-output-room-requires c κs = search needs
-
-array-share-prefix-input : tie.Need-array-share-prefix-input
-array-share-prefix-input c = search needs
-
-slice-aggregate-write-output : tie.Need-slice-aggregate-write-output
-slice-aggregate-write-output c = search needs
-
-slice-aggregate-write-output-2 : tie.Need-slice-aggregate-write-output-2
-slice-aggregate-write-output-2 c = search needs
-
-write-output-requires : tie.Need-write-output-requires
-write-output-requires c κs = search needs
-
-array-share-prefix-out : tie.Need-array-share-prefix-out
-array-share-prefix-out c = search needs
+read-input-requires : tie.Need-read-input-requires
+read-input-requires c κs = search needs
 
 slice-aggregate-write-all : tie.Need-slice-aggregate-write-all
-slice-aggregate-write-all c =
-    let done = c .before .before .write-output in
-    let out = done .last .1 .0 in
-    let h : done .result ≤ length out = search needs in
-    sym (length-take-le (done .result) out h)
+slice-aggregate-write-all c = search needs
 
 write-all-requires : tie.Need-write-all-requires
 write-all-requires c κs = search needs
@@ -48,19 +26,33 @@ write-all-requires c κs = search needs
 returns : tie.Need-returns
 returns c = search needs
 
+array-share-prefix-input : tie.Need-array-share-prefix-input
+array-share-prefix-input c = search needs
+
+slice-aggregate-answer : tie.Need-slice-aggregate-answer
+slice-aggregate-answer c =
+    let got = c .before .before .before .read-input in
+    let input = got .last .0 in
+    let h : got .result .n ≤ length input = search needs in
+    sym (length-take-le (got .result .n) input h)
+
+answer-requires : tie.Need-answer-requires
+answer-requires c κs = search needs
+
+returns-2 : tie.Need-returns-2
+returns-2 c = search needs
+
 pub main-spec : {M : Type 1} → statement M
 main-spec =
     tie.close
     (tie.spec
     input-room-requires
-    slice-aggregate-read-full
-    read-full-requires
-    output-room-requires
-    array-share-prefix-input
-    slice-aggregate-write-output
-    slice-aggregate-write-output-2
-    write-output-requires
-    array-share-prefix-out
+    slice-aggregate-read-input
+    read-input-requires
     slice-aggregate-write-all
     write-all-requires
-    returns)
+    returns
+    array-share-prefix-input
+    slice-aggregate-answer
+    answer-requires
+    returns-2)

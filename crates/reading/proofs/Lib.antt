@@ -1,0 +1,2 @@
+-- Laws of a room that is read into.
+pub mod Rooms
