@@ -73,7 +73,7 @@ pub fn closed_up(firings: [Firing; MAX_LIVE], live: usize, i: usize) -> [Firing;
 }
 
 // Whether an entry is unused.
-pub fn is_no_firing(f: Firing) -> bool
+fn is_no_firing(f: Firing) -> bool
     ensures { λ r. ⌜ r ≡ isNoFiring f ⌝ }
     ensures { λ r. ⌜ (r ≡ true → f ≡ noFiring) ⌝ }
 {

@@ -15,9 +15,9 @@ use net::Place;
 use net::Transition;
 
 // The widths of the format. A base's number is one byte, read by base_at.
-pub const BASE_WIDTH: usize = 1;
+const BASE_WIDTH: usize = 1;
 
-pub const ENTRY_WIDTH: usize = BASE_WIDTH + 2;
+const ENTRY_WIDTH: usize = BASE_WIDTH + 2;
 
 pub const BOND_WIDTH: usize = BASE_WIDTH + BASE_WIDTH;
 
@@ -52,13 +52,13 @@ pub fn word_at(s: &[u8], at: u32) -> usize
 }
 
 // A base's number: the one place that reads its width.
-pub fn base_at(s: &[u8], at: usize) -> Base
+fn base_at(s: &[u8], at: usize) -> Base
     ensures { λ r. ⌜ r ≡ baseAt (now (s .entry)) at ⌝ }
 {
     byte_at(s, at)
 }
 
-pub fn entry_at(s: &[u8], at: u32) -> Entry
+fn entry_at(s: &[u8], at: u32) -> Entry
     ensures { λ r. ⌜ r ≡ entryAt (now (s .entry)) at ⌝ }
 {
     let at = at as usize;
@@ -72,7 +72,7 @@ pub fn entry_at(s: &[u8], at: u32) -> Entry
     }
 }
 
-pub fn bond_at(s: &[u8], at: u32) -> Bond
+fn bond_at(s: &[u8], at: u32) -> Bond
     ensures { λ r. ⌜ r ≡ bondAt (now (s .entry)) at ⌝ }
 {
     let at = at as usize;
@@ -134,7 +134,7 @@ pub fn pair_length(sheet: &[u8], k: u16) -> usize
 }
 
 // The part of the sheet that pair k names; the empty one where it does not lie in the sheet.
-pub fn part<'a>(sheet: &'a [u8], k: u16) -> &'a [u8]
+fn part<'a>(sheet: &'a [u8], k: u16) -> &'a [u8]
     ensures { λ r. ⌜ now r ≡ partOf (now (sheet .entry)) k ⌝ }
     ensures { λ r. ⌜ length (now r) < 65536 ⌝ }
 {
@@ -204,7 +204,7 @@ pub fn entry(b: &[u8], i: u8) -> Entry
 }
 
 // Where the count of in-couplings stands.
-pub fn in_at(b: &[u8]) -> u32
+fn in_at(b: &[u8]) -> u32
     ensures { λ r. ⌜ r ≡ inAt (now (b .entry)) ⌝ }
     ensures { λ r. ⌜ r ≤ 1 + entryWidth * 255 ⌝ }
 {
@@ -227,7 +227,7 @@ pub fn in_bond(b: &[u8], i: u8) -> Bond
 }
 
 // Where the count of out-couplings stands.
-pub fn out_at(b: &[u8]) -> u32
+fn out_at(b: &[u8]) -> u32
     ensures { λ r. ⌜ r ≡ outAt (now (b .entry)) ⌝ }
     ensures { λ r. ⌜ r ≤ 2 + entryWidth * 255 + bondWidth * 255 ⌝ }
 {

@@ -13,7 +13,7 @@ use text::put_digits;
 use text::put_word;
 
 // The shortest buffer that is written to. The longest line has as many bytes: ten digits, ` undone `, five digits, a newline.
-pub const MIN_LINE: usize = 24;
+const MIN_LINE: usize = 24;
 
 // The refusal's number, or 0 and how many bytes the line has.
 pub struct Written {

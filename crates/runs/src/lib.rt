@@ -13,7 +13,7 @@ use tally::Tally;
 use tally::counted;
 
 // What one command came to: the record and the tally after it, and its answer as a word and a value.
-pub struct Stepped {
+struct Stepped {
     pub session: Record,
     pub tally: Tally,
     pub word: u8,

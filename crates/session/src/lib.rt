@@ -33,14 +33,14 @@ pub struct Record {
 }
 
 // A command that can be read.
-pub enum Command {
+enum Command {
     Fire(Transition),
     UndoLast,
     Undo(Key),
 }
 
 // What three bytes say.
-pub enum Decoded {
+enum Decoded {
     Given(Command),
     Unreadable,
 }
@@ -71,7 +71,7 @@ pub struct Start {
 }
 
 // What the first three bytes say. Nothing after them is read; bytes that are not there read as 0.
-pub fn decode(bytes: &[u8]) -> Decoded
+fn decode(bytes: &[u8]) -> Decoded
     ensures { λ r. ⌜ r ≡ decodedOf (now (bytes .entry)) ⌝ }
 {
     let kind = byte_at(bytes, 0);

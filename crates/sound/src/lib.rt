@@ -31,7 +31,7 @@ use steps::moved_by;
 
 // Whether a firing, run forward on m, is accepted and moves just its bases.
 // Callers have an accepted sheet and hold a good marking of it.
-pub fn line_accepted(sheet: &[u8], m: Marking, f: Firing) -> bool
+fn line_accepted(sheet: &[u8], m: Marking, f: Firing) -> bool
     requires { ⌜ Placed (now sheet) m ⌝ }
     ensures { λ r. ⌜ r ≡ accepts (netOf (now (sheet .entry))) (markingOf (basesOf (now (sheet .entry))) m) (asLine (basesOf (now (sheet .entry))) f) ⌝ }
 {

@@ -10,17 +10,15 @@ pub struct Tally {
 }
 
 // The highest count.
-pub const MAX_COUNT: u16 = 65535;
+const MAX_COUNT: u16 = 65535;
 
-// Which count a command adds to.
-pub const FIRED: u8 = 0;
+// Which count a command adds to: any other number is refused.
+const FIRED: u8 = 0;
 
-pub const UNDONE: u8 = 1;
-
-pub const REFUSED: u8 = 2;
+const UNDONE: u8 = 1;
 
 // One more; the highest count stays.
-pub fn one_more(n: u16) -> u16
+fn one_more(n: u16) -> u16
     ensures { λ r. ⌜ r ≡ oneMore n ⌝ }
 {
     if n < MAX_COUNT { n + 1 } else { n }
