@@ -96,11 +96,11 @@ module _ (s : List ℕ) (j : Journal) (c : List ℕ) where
   not-one : (k : ℕ) → eqb (kindOf c) k ≡ true → eqb k 1 ≡ false → eqb (kindOf c) 1 ≡ false
   not-one k e d = ap (λ (n : ℕ). eqb n 1) (eqb-true (kindOf c) k e) ∙ d
 
-  key-two : eqb (kindOf c) 2 ≡ true → keyNamed j c ≡ key (highestLive (j .lines))
-  key-two e = ap (λ (b : Bool). key (pick b (highestLive (j .lines)) (numberOf c))) e
+  key-two : eqb (kindOf c) 2 ≡ true → keyNamed j c ≡ highestLive (j .lines)
+  key-two e = ap (λ (b : Bool). pick b (highestLive (j .lines)) (key (numberOf c))) e
 
   key-three : eqb (kindOf c) 3 ≡ true → keyNamed j c ≡ key (numberOf c)
-  key-three e = ap (λ (n : ℕ). key (pick (eqb n 2) (highestLive (j .lines)) (numberOf c))) (eqb-true (kindOf c) 3 e)
+  key-three e = ap (λ (n : ℕ). pick (eqb n 2) (highestLive (j .lines)) (key (numberOf c))) (eqb-true (kindOf c) 3 e)
 
 -- ---- a record that holds such a journal
 
@@ -169,10 +169,10 @@ module _ (s : List ℕ) (accepted : clear (sheetChecks s) ≡ true) (ok : netRul
       fires = λ t c read one space D.
           fires-to t c (clear-own s j c read (clear-fire s j c one ∙ and-i (clear (enableChecks (netOf s) (j .marking) (transitionNamed c))) (clear (spaceChecks j)) (shown .enabled (transitionNamed c) .1 D) space)) one;
       firesOnly = λ t c e. let (p, q) = fired-clear s j c (sym (answer-is t c) ∙ e) in shown .enabled (transitionNamed c) .0 (enabled-now c p q);
-      undoesLast = λ t c read two v D. by-key t c (key (highestLive (j .lines))) v read (not-one s j c 2 two refl) (key-two s j c two) (shown .last v .1 D);
+      undoesLast = λ t c read two v D. by-key t c (highestLive (j .lines)) v read (not-one s j c 2 two refl) (key-two s j c two) (shown .last v .1 D);
       undoesLastOnly = λ t c two e.
           let (p, q) = undone-clear s j c (sym (answer-is t c) ∙ e) in
-          let k : Key = key (highestLive (j .lines)) in
+          let k : Key = highestLive (j .lines) in
           let d : clear (undoChecks j k) ≡ true = subst (λ (x : Key). clear (undoChecks j x) ≡ true) (key-two s j c two) (undoable c p q) in
           (lineOf k (j .lines) .transition, shown .last (lineOf k (j .lines) .transition) .0 (d, refl));
       undoes = λ t c read three v D x. by-key t c (key (numberOf c)) v read (not-one s j c 3 three refl) (key-three s j c three) (shown .causal (key (numberOf c)) v .1 (D, x));
