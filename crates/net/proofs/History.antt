@@ -20,7 +20,7 @@ use Rattle.net.specs.Firing.{moved, fire, Fires}
 use Rattle.net.specs.Checks.{clear}
 use Rattle.net.specs.Journal.{LiveLine, Journal, highestLive, enableChecks, act, play, begin}
 use Rattle.net.specs.History.{sameMarking, accepts, replays, keysInOrder, linesInForm, sound}
-use Rattle.net.specs.Claims.{StaysSound, JournalSound}
+use Rattle.net.proofs.Claimed.{StaysSound, JournalSound}
 use Rattle.net.proofs.Tests.{and-l, and-r, and-i, all-e, all-i, beq-e, beq-i, same-e, same-i}
 use Rattle.net.proofs.Bonds.{bond-eq, eq-bond}
 use Rattle.net.proofs.Keys.{Up, mem-highest}
