@@ -8,8 +8,8 @@ use Rattle.net.specs.Limits.{maxBases}
 use Rattle.net.specs.Rules.{netRule}
 use Rattle.net.specs.Checks.{clear}
 use Rattle.net.specs.Journal.{LiveLine}
-use Rattle.net.specs.Claims as N
 use Rattle.net.specs.Claims.{fireCommands}
+use Rattle.net.proofs.Claimed.{Forward}
 use Rattle.net.proofs.Demand3 as N′
 use Rattle.format.specs.Parts.{basesOf}
 use Rattle.format.specs.NetOf.{netOf}
@@ -22,7 +22,7 @@ use Rattle.claims.specs.Demands.{journalAfter, ForwardRun, Demand3}
 
 module _ (s : List ℕ) (accepted : clear (sheetChecks s) ≡ true) (ok : netRule (netOf s) ≡ true) (few : basesOf s ≤ maxBases) where
   -- a forward run of the journal is one of the record
-  forward : (ls : List LiveLine) (z : _) → N.Forward (netOf s) ls z → (t : Tally) → ForwardRun s ls z t
+  forward : (ls : List LiveLine) (z : _) → Forward (netOf s) ls z → (t : Tally) → ForwardRun s ls z t
   forward ls z F t =
       let y = follows-fresh s accepted ok few (fireCommands ls) t in
       record { fired = y .answers ∙ ap (map answered) (F .answer); session = y .session ∙ ap recordOf (F .journal) }

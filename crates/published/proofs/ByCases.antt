@@ -1,5 +1,5 @@
--- Where a place is not both incoming and outgoing, Definitions 5 and 7 as they stand here are the chapter's three cases, for
--- every net and marking. Assumes nothing.
+-- Definitions 5 and 7 as they stand here are the chapter's cases; at a place that is both incoming and outgoing, one after the
+-- other. For every net and marking. Assumes nothing.
 use mathlib.Core.Logic.{inl, inr}
 use Prim.Native.Nat.{ℕ}
 use Rattle.net.specs.declared.Transition.{Transition}
@@ -35,6 +35,7 @@ module _ (N : PetriNet) (M : Marks) (t : Transition) (x : ℕ) (p : N .isPlace x
     incoming = λ out i. (only-leaves out i, λ h. inl h);
     outgoing = λ out i. (only-comes i, nothing-leaves out i);
     neither = λ out out′ i. ((λ h. only-leaves out′ i h .0), λ h. nothing-leaves out i (inl h));
+    both = λ _ _ i. ((λ h. h), λ h. h);
   }
 
   only-comes-back : (i : Item) → reversedMarks N M t x i → union (M x) (comesBack N M t x) i
@@ -54,4 +55,5 @@ module _ (N : PetriNet) (M : Marks) (t : Transition) (x : ℕ) (p : N .isPlace x
     incoming = λ out i. (only-comes-back i, nothing-leaves-back out i);
     outgoing = λ out i. (only-leaves-back out i, λ h. inl h);
     neither = λ out out′ i. ((λ h. only-leaves-back out i h .0), λ h. nothing-leaves-back out′ i (inl h));
+    both = λ _ _ i. ((λ h. h), λ h. h);
   }
