@@ -5,6 +5,7 @@ use mathlib.Core.Bool.{true}
 use mathlib.Core.List.{List}
 use Prim.Native.Nat.{ℕ}
 use Rattle.net.specs.Checks.{clear}
+use Rattle.net.proofs.Connection.{connected-leads, leads-connected}
 use Rattle.sheet.specs.Checks.{sheetChecks}
 use Rattle.format.specs.Parts.{partOf, transitionBytes}
 use Rattle.sheet_head.specs.Conditions.{wrongSize, wrongVersion, wrongCounts, wrongPairs, wrongStartPlaces, wrongStartBonds}
@@ -18,15 +19,22 @@ use Rattle.session.specs.Commands.{freshOf}
 use Rattle.session.proofs.Begins.{fresh-sound}
 use Rattle.claims.specs.Demands.{Demand3, Demands}
 use Rattle.claims.specs.Published.{FollowsPublished}
+use Rattle.claims.proofs.Sheets.{sheet-answered, sheet-starts}
 use Rattle.claims.proofs.Answers.{demand1, demand2}
+use Rattle.claims.proofs.Records.{soundness}
 use Rattle.claims.proofs.Sessions.{demand3}
 use Rattle.claims.proofs.Counts.{session-totals}
 use Rattle.claims.proofs.Published.{demand2-published}
 
 pub demands : Demands
 demands = record {
+  connection = λ bs p q. (connected-leads bs p q, leads-connected bs p q);
+  sheets = sheet-answered;
+  starts = sheet-starts;
   demand1 = demand1;
   demand2 = demand2;
+  published = demand2-published;
+  soundness = λ s accepted. let P = promised s accepted in soundness s accepted (P .rule) (P .bases .1);
   demand3 = λ s accepted. let P = promised s accepted in demand3 s accepted (P .rule) (P .bases .1);
   totals = λ s accepted. let P = promised s accepted in session-totals s accepted (P .rule) (P .bases .1);
 }
