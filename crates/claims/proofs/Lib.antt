@@ -7,3 +7,4 @@ pub mod Sessions
 pub mod Counts
 pub mod Published
 pub mod Demands
+pub mod Instances

@@ -226,7 +226,7 @@ module _ (s : List ℕ) (accepted : clear (sheetChecks s) ≡ true) (ok : netRul
 
 module _ (s : List ℕ) (accepted : clear (sheetChecks s) ≡ true) (ok : netRule (netOf s) ≡ true) (few : basesOf s ≤ maxBases) where
   -- a session's record holds the journal, and passes the test
-  holds : (cs : List (List ℕ)) (t : Tally) → heldIn s (sessionAfter s cs t .session) ≡ play (netOf s) cs (begin (netOf s))
+  pub holds : (cs : List (List ℕ)) (t : Tally) → heldIn s (sessionAfter s cs t .session) ≡ play (netOf s) cs (begin (netOf s))
   holds cs t = ap (heldIn s) (follows-fresh s accepted ok few cs t .session) ∙ held-back s accepted ok few (play (netOf s) cs (begin (netOf s))) (played (netOf s) ok cs)
 
   pub session-passes : (cs : List (List ℕ)) (t : Tally) → soundFor s (sessionAfter s cs t .session) ≡ true
