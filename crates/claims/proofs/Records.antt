@@ -1,6 +1,6 @@
 -- A command on a record that passes refusal 10's test: what it does to the journal that the record holds, and that the record
 -- handed back passes the test. Nothing else is asked of the record's arrays. Assumes an accepted sheet.
-use mathlib.Core.Path.{_≡_, refl, sym, _∙_, ap, subst}
+use mathlib.Core.Path.{_≡_, refl, _∙_, ap, subst}
 use mathlib.Core.Bool.{Bool, true, false}
 use mathlib.Core.List.{List}
 use Prim.Native.Nat.{ℕ, _≤_}
@@ -10,7 +10,6 @@ use Rattle.net.specs.Tests.{pick}
 use Rattle.net.specs.Rules.{netRule}
 use Rattle.net.specs.Checks.{clear, first}
 use Rattle.net.specs.Journal.{Journal, Reply, kindOf, transitionNamed, keyNamed, checks, fireReply, undoReply, refuse, begin, act}
-use Rattle.net.specs.declared.Key.{Key}
 use Rattle.net.proofs.Tests.{and-r}
 use Rattle.net.proofs.Journal.{Held, act-held, begin-held}
 use Rattle.net.proofs.History.{sound-held}
@@ -19,12 +18,13 @@ use Rattle.format.specs.NetOf.{netOf}
 use Rattle.sheet.specs.Checks.{sheetChecks}
 use Rattle.sound.specs.Soundness.{formed, soundIn}
 use Rattle.tally.specs.declared.Tally.{Tally}
-use Rattle.session.specs.Records.{heldIn, recordOf, soundFor}
+use Rattle.session.specs.Records.{heldIn, soundFor}
 use Rattle.session.specs.Commands.{freshOf, refusal, answerOf, keyOf, acceptOf, performOf, commandOf}
 use Rattle.session.specs.declared.Record.{Record}
 use Rattle.session.specs.declared.Outcome.{Outcome}
 use Rattle.session.proofs.Steps.{sound-performs, outcome-is, held-back, held-soundFor}
 use Rattle.claims.specs.Demands.{Soundness}
+use Rattle.claims.proofs.Sessions.{held-runs}
 
 module _ (s : List ℕ) (accepted : clear (sheetChecks s) ≡ true) (ok : netRule (netOf s) ≡ true) (few : basesOf s ≤ maxBases) where
   module _ (r : Record) (passes : soundFor s r ≡ true) where
@@ -83,4 +83,4 @@ module _ (s : List ℕ) (accepted : clear (sheetChecks s) ≡ true) (ok : netRul
   fresh-passes = held-soundFor s accepted ok few (begin (netOf s)) (begin-held (netOf s) ok)
 
   pub soundness : Soundness s
-  soundness = record { fresh = fresh-passes; stays = λ r t c h. stays-sound r h t c }
+  soundness = record { fresh = fresh-passes; stays = λ r t c h. stays-sound r h t c; forward = λ r h t. held-runs s accepted ok few (heldIn s r) (passes-held r h) t }

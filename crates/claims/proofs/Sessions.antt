@@ -4,13 +4,17 @@ use mathlib.Core.Path.{_≡_, _∙_, ap}
 use mathlib.Core.Bool.{true}
 use mathlib.Core.List.{List, map}
 use Prim.Native.Nat.{ℕ, _≤_}
+use Rattle.causal.proofs.Reorderings.{reordering-same}
 use Rattle.net.specs.Limits.{maxBases}
 use Rattle.net.specs.Rules.{netRule}
 use Rattle.net.specs.Checks.{clear}
-use Rattle.net.specs.Journal.{LiveLine}
+use Rattle.net.specs.Firing.{inSet}
+use Rattle.net.specs.Journal.{LiveLine, Journal}
 use Rattle.net.specs.Claims.{fireCommands}
 use Rattle.net.specs.History.{linesInForm, replays}
 use Rattle.net.proofs.Tests.{and-l}
+use Rattle.net.proofs.Keys.{up-distinct}
+use Rattle.net.proofs.Journal.{Held}
 use Rattle.net.proofs.History.{journal-sound}
 use Rattle.net.proofs.Claimed.{Forward}
 use Rattle.net.proofs.Demand3 as N′
@@ -30,6 +34,10 @@ module _ (s : List ℕ) (accepted : clear (sheetChecks s) ≡ true) (ok : netRul
   forward ls z F t =
       let y = follows-fresh s accepted ok few (fireCommands ls) t in
       record { fired = y .answers ∙ ap (map answered) (F .answer); session = y .session ∙ ap recordOf (F .journal); journal = F .journal }
+
+  -- what holds of a journal's lines runs forward
+  pub held-runs : (j : Journal) → Held (netOf s) j → (t : Tally) → ForwardRun s (j .lines) (j .marking) t
+  held-runs j H t = forward (j .lines) (j .marking) (N′.held-forward (netOf s) ok j H (j .lines) (reordering-same inSet (j .lines) (up-distinct (j .lines) (H .up)))) t
 
   pub demand3 : (cs : List (List ℕ)) (t : Tally) → Demand3 s cs t
   demand3 cs t =

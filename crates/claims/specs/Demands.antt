@@ -112,11 +112,13 @@ pub record Demand3 (s : List ℕ) (cs : List (List ℕ)) (t : Tally) : Type 0 wh
   -- and in every reordering that keeps the order of any two that moved a common base
   pub reordered : (ls : List LiveLine) → Reordering inSet (journalAfter s cs .lines) ls → (t′ : Tally) → ForwardRun s ls (journalAfter s cs .marking) t′
 
--- Sound records (01, commands, record, tally): a fresh one is sound, and a command on a sound one hands back a sound one, also
--- on a record that was handed in. Sound is what refusal 10 tests.
+-- Sound records (01, commands, record, tally), those that refusal 10 lets pass, handed in or not: a fresh one is sound; a command
+-- on a sound one hands back a sound one; and its live firings, given as commands from a fresh record, run forward to what it
+-- holds.
 pub record Soundness (s : List ℕ) : Type 0 where
   pub fresh : soundFor s (freshOf s) ≡ true
   pub stays : (r : Record) (t : Tally) (c : List ℕ) → soundFor s r ≡ true → soundFor s (commandOf s r t c .outcome .session) ≡ true
+  pub forward : (r : Record) → soundFor s r ≡ true → (t : Tally) → ForwardRun s (heldIn s r .lines) (heldIn s r .marking) t
 
 -- ---- Document 01's totals
 

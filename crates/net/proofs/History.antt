@@ -12,7 +12,7 @@ use borrow.Author.Tests.{eqb-true, eq-eqb, ltb-true, lt-ltb, leb-true, le-leb, l
 use Rattle.causal.specs.Lists.{Mem}
 use Rattle.causal.specs.Runs.{Run}
 use Rattle.net.specs.Limits.{maxLive, maxKey}
-use Rattle.net.specs.Tests.{all, sameList}
+use Rattle.net.specs.Tests.{sameList}
 use Rattle.net.specs.Sorted.{ascends}
 use Rattle.net.specs.Net.{Marking, Net, sameBond, arcsOf}
 use Rattle.net.specs.Rules.{netRule}

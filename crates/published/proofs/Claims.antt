@@ -13,7 +13,7 @@ use Rattle.net.proofs.History.{sound-held}
 use Rattle.net.proofs.Cases.{netB-rule}
 use Rattle.published.specs.Sets.{Iff}
 use Rattle.published.specs.Causal.{Order, noOrder}
-use Rattle.published.specs.Sheets.{petriNet, marksOf, historyOf, orderAfter, orderOfLines}
+use Rattle.published.specs.Sheets.{marksOf, historyOf, orderAfter, orderOfLines}
 use Rattle.published.specs.Claims.{Initial, AsPublished, Published}
 use Rattle.published.proofs.Nets.{definition2, well-formed, is-marking, each-in-one-place}
 use Rattle.published.proofs.Enabling.{enabled-iff}
@@ -23,7 +23,7 @@ use Rattle.published.proofs.Keys.{reversed-keys}
 use Rattle.published.proofs.FiredKeys.{fired-keys}
 use Rattle.published.proofs.Order.{Agrees, fired-order, reversed-order, order-is}
 use Rattle.published.proofs.LineOrder.{lines-order}
-use Rattle.published.proofs.ByCases.{fired-by-cases, reversed-by-cases}
+use Rattle.published.proofs.ByCases.{by-cases}
 use Rattle.published.proofs.Causal.{reversed-marks, moved-back, undo-iff, last-iff}
 
 swap : {X Y : Type 0} → Iff X Y → Iff Y X
@@ -63,7 +63,7 @@ module _ (net : Net) (ok : netRule net ≡ true) where
   published = record {
     definition2 = definition2 net ok;
     wellFormed = well-formed net ok;
-    byCases = record { fired = λ s t x p. fired-by-cases (petriNet net) (marksOf net s) t x p; reversed = λ s t x p. reversed-by-cases (petriNet net) (marksOf net s) t x p };
+    byCases = by-cases net;
     initial = initial-state;
     states = λ _ cs. as-published (play net cs (begin net)) (played net ok cs) (orderAfter net cs (begin net) noOrder) (order-is net ok cs);
     histories = λ _ j h. as-published j (sound-held net j h) (orderOfLines net (j .lines)) (lines-order net ok j (sound-held net j h));

@@ -1,6 +1,7 @@
 -- What is claimed: that document 01's firing and taking back, on every journal that a session can reach, are chapter 3's.
 -- Statements only; proofs/ has a proof of each.
 use mathlib.Core.Path.{_≡_}
+use mathlib.Core.Logic.{_⊎_}
 use mathlib.Core.Bool.{true}
 use mathlib.Core.List.{List}
 use Prim.Native.Nat.{ℕ}
@@ -48,8 +49,11 @@ pub record ReversedByCases (N : PetriNet) (M : Marks) (t : Transition) (x : ℕ)
   pub neither : (Incoming N t x → ⊥) → (Outgoing N t x → ⊥) → (i : Item) → Iff (reversedMarks N M t x i) (M x i)
   pub both : Incoming N t x → Outgoing N t x → (i : Item) → Iff (reversedMarks N M t x i) (gotBack N M t x (lostBack N M t x (M x)) i)
 
--- Of a net: at each of its places, on every marking
+-- Of a net: at each of its places, on every marking. Whether a place is incoming, and whether it is outgoing, is decided, so
+-- that each falls under one of the four.
 pub record ByCases (net : Net) : Type 0 where
+  pub decided : (t : Transition) (x : ℕ) → petriNet net .isPlace x
+      → (Incoming (petriNet net) t x ⊎ (Incoming (petriNet net) t x → ⊥)) × (Outgoing (petriNet net) t x ⊎ (Outgoing (petriNet net) t x → ⊥))
   pub fired : (s : Marking) (t : Transition) (x : ℕ) → petriNet net .isPlace x → FiredByCases (petriNet net) (marksOf net s) t x
   pub reversed : (s : Marking) (t : Transition) (x : ℕ) → petriNet net .isPlace x → ReversedByCases (petriNet net) (marksOf net s) t x
 
