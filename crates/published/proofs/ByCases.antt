@@ -1,6 +1,6 @@
 -- Definitions 5 and 7 as they stand here are the chapter's cases; at a place that is both incoming and outgoing, one after the
 -- other. For every net and marking. Of a sheet's net it is decided which places are incoming and outgoing. Assumes nothing.
-use mathlib.Core.Path.{_≡_, refl}
+use mathlib.Core.Path.{refl}
 use mathlib.Core.Logic.{_⊎_, inl, inr}
 use mathlib.Core.List.{List}
 use Prim.Native.Nat.{ℕ}
