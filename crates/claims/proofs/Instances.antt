@@ -26,7 +26,7 @@ use Rattle.session.specs.declared.Record.{Record}
 use Rattle.session.specs.declared.StartAnswer.the-variants.{NotStarted}
 use Rattle.session.proofs.Begins.{fresh-sound}
 use Rattle.claims.specs.Sessions.{sessionAfter}
-use Rattle.claims.specs.Published.{marksIn, historyIn, orderIn, CommandFires, CommandTakesBack, AsPublished, FollowsPublished}
+use Rattle.claims.specs.Published.{marksIn, historyIn, orderIn, CommandFires, CommandTakesBack, RecordAsPublished, FollowsPublished}
 use Rattle.claims.specs.Demands.{Demand3}
 use Rattle.claims.proofs.Records.{answer-is}
 use Rattle.claims.proofs.Published.{holds, session-passes}
@@ -81,7 +81,7 @@ answer-B cs t c =
     ∙ ap (λ (j : Journal). answerOf (act (netOf sheetB) j c .answer)) (holds sheetB accepted-B (P .rule) (P .bases .1) cs t)
     ∙ ap (λ (n : Net). answerOf (act n (play n cs (begin n)) c .answer)) sheetB-net
 
-shown : (cs : List (List ℕ)) (t : Tally) → AsPublished sheetB (recordB cs t) (orderIn sheetB cs)
+shown : (cs : List (List ℕ)) (t : Tally) → RecordAsPublished sheetB (recordB cs t) (orderIn sheetB cs)
 shown cs t = published-B .sessions (published-B .wellFormed) cs t
 
 abbrev firings : List (List ℕ)
@@ -100,5 +100,5 @@ pub taken-back-M5 : (t : Tally) → (v : Transition) × petriNet (netOf sheetB) 
 taken-back-M5 t = shown firings t .undoesOnly t (undoOf 2) refl (answer-B firings t (undoOf 2))
 
 -- and so where the same record is handed in
-pub handed-in-M5 : (t : Tally) → AsPublished sheetB (recordB firings t) (orderOfLines (netOf sheetB) (heldIn sheetB (recordB firings t) .lines))
+pub handed-in-M5 : (t : Tally) → RecordAsPublished sheetB (recordB firings t) (orderOfLines (netOf sheetB) (heldIn sheetB (recordB firings t) .lines))
 handed-in-M5 t = published-B .sound (published-B .wellFormed) (recordB firings t) (passes-B firings t)

@@ -42,7 +42,7 @@ use Rattle.session.specs.declared.Answer.{Answer}
 use Rattle.session.specs.declared.Answer.the-variants.{Fired, Undone, Refused}
 use Rattle.session.proofs.Steps.{held-back, held-soundFor, follows-fresh}
 use Rattle.claims.specs.Sessions.{sessionAfter}
-use Rattle.claims.specs.Published.{marksIn, historyIn, orderIn, recordAfter, CommandFires, CommandTakesBack, AsPublished, KeysAsPublished, FollowsPublished, Demand2Published}
+use Rattle.claims.specs.Published.{marksIn, historyIn, orderIn, recordAfter, CommandFires, CommandTakesBack, RecordAsPublished, RecordKeysAsPublished, FollowsPublished, Demand2Published}
 use Rattle.claims.proofs.Records.{passes-held, answer-is, key-is, journal-is}
 
 -- ---- answers
@@ -130,14 +130,14 @@ module _ (s : List ℕ) (accepted : clear (sheetChecks s) ≡ true) (ok : netRul
   key-by : (t : Tally) (c : List ℕ) (y : Reply) → act (netOf s) j c ≡ y → keyOf (y .answer) ≡ commandOf s r t c .outcome .key
   key-by t c y e = sym (key-is s accepted ok few r passes t c ∙ ap (λ (x : Reply). keyOf (x .answer)) e)
 
-  keys-held : KeysAsPublished s r
+  keys-held : RecordKeysAsPublished s r
   keys-held t c e u k =
       let (p, q) = fired-clear s j c (sym (answered t c) ∙ e) in
       let after = journal-by t c (fireReply (netOf s) j (transitionNamed c)) (reply-is s j c true true p q) in
       subst⁻¹ (λ (x : Journal). Iff (historyOf x u k) (firedKeys (petriNet (netOf s)) (historyIn s r) (transitionNamed c) u k)) after (fired-keys (netOf s) ok j H (transitionNamed c) u k)
 
   module _ (R : Order) (A : Agrees (heldIn s r) R) where
-    shown : P.AsPublished (netOf s) (heldIn s r) R
+    shown : P.JournalAsPublished (netOf s) (heldIn s r) R
     shown = as-published (netOf s) ok (heldIn s r) H R A
 
     enabled-now : (c : List ℕ) → clear (checks (netOf s) j c) ≡ true → eqb (kindOf c) 1 ≡ true → clear (enableChecks (netOf s) (j .marking) (transitionNamed c)) ≡ true
@@ -197,7 +197,7 @@ module _ (s : List ℕ) (accepted : clear (sheetChecks s) ≡ true) (ok : netRul
         let e : clear (undoChecks j k) ≡ true = subst (λ (x : Key). clear (undoChecks j x) ≡ true) same (undoable c p q) in
         (e, line-listed (netOf s) ok j H (lineOf k (j .lines)) (undo-mem (netOf s) ok j H k e), subst (λ (x : Key). CommandTakesBack s r R t c (lineOf x (j .lines) .transition)) same (takes-back t c p q))
 
-    pub record-published : AsPublished s r R
+    pub record-published : RecordAsPublished s r R
     record-published = record {
       marking = shown .marking;
       onePlace = shown .onePlace;

@@ -71,8 +71,8 @@ module _ (s : List ℕ) (accepted : clear (sheetChecks s) ≡ true) (ok : netRul
         go true e = held-back s accepted ok few (reply c true .journal) (replied-held c e)
         go false e = refl
 
-    pub stays-sound : (t : Tally) (c : List ℕ) → soundFor s (commandOf s r t c .outcome .session) ≡ true
-    stays-sound t c = ap (λ (o : Outcome). soundFor s (o .session)) (performs t c) ∙ go (clear (checks (netOf s) j c)) refl
+    pub passes-after : (t : Tally) (c : List ℕ) → soundFor s (commandOf s r t c .outcome .session) ≡ true
+    passes-after t c = ap (λ (o : Outcome). soundFor s (o .session)) (performs t c) ∙ go (clear (checks (netOf s) j c)) refl
       where
         go : (b : Bool) → clear (checks (netOf s) j c) ≡ b → soundFor s (given c b .session) ≡ true
         go true e = held-soundFor s accepted ok few (reply c true .journal) (replied-held c e)
@@ -83,4 +83,4 @@ module _ (s : List ℕ) (accepted : clear (sheetChecks s) ≡ true) (ok : netRul
   fresh-passes = held-soundFor s accepted ok few (begin (netOf s)) (begin-held (netOf s) ok)
 
   pub soundness : Soundness s
-  soundness = record { fresh = fresh-passes; stays = λ r t c h. stays-sound r h t c; forward = λ r h t. held-runs s accepted ok few (heldIn s r) (passes-held r h) t }
+  soundness = record { fresh = fresh-passes; stays = λ r t c h. passes-after r h t c; forward = λ r h t. held-runs s accepted ok few (heldIn s r) (passes-held r h) t }

@@ -78,7 +78,7 @@ pub record CommandTakesBack (s : List ℕ) (r : Record) (R : Order) (t : Tally) 
 -- ---- A record r, with the relation R for ≺, and every command on it. Where something "is done only if", what was done is said
 -- too.
 
-pub record AsPublished (s : List ℕ) (r : Record) (R : Order) : Type 0 where
+pub record RecordAsPublished (s : List ℕ) (r : Record) (R : Order) : Type 0 where
   -- the record holds a marking of the net, with each base in exactly one place
   pub marking : IsMarking (petriNet (netOf s)) (marksIn s r)
   pub onePlace : EachInOnePlace (petriNet (netOf s)) (marksIn s r)
@@ -109,8 +109,8 @@ pub record AsPublished (s : List ℕ) (r : Record) (R : Order) : Type 0 where
   pub order : (u : Transition) (i : ℕ) (v : Transition) (k : ℕ) → Iff (R u i v k) (laterWithCommon (heldIn s r) u i v k)
 
 -- A firing gives the history of Definition 5. (T-03 changes this claim alone.)
-abbrev pub KeysAsPublished : List ℕ → Record → Type 0
-KeysAsPublished s r = (t : Tally) (c : List ℕ) → commandOf s r t c .outcome .answer ≡ Fired
+abbrev pub RecordKeysAsPublished : List ℕ → Record → Type 0
+RecordKeysAsPublished s r = (t : Tally) (c : List ℕ) → commandOf s r t c .outcome .answer ≡ Fired
     → (u : Transition) (k : ℕ) → Iff (historyIn s (recordAfter s r t c) u k) (firedKeys (petriNet (netOf s)) (historyIn s r) (transitionNamed c) u k)
 
 -- ---- All of it, of every accepted sheet: its net is one of Definition 2 and well-formed (Definition 3), with the chapter's cases
@@ -125,10 +125,10 @@ pub record FollowsPublished (s : List ℕ) : Type 0 where
   pub wellFormed : WellFormed (petriNet (netOf s))
   pub byCases : ByCases (netOf s)
   pub initial : Initial (netOf s) (marksIn s (freshOf s)) (historyIn s (freshOf s))
-  pub sessions : WellFormed (petriNet (netOf s)) → (cs : List (List ℕ)) (t : Tally) → AsPublished s (sessionAfter s cs t .session) (orderIn s cs)
-  pub sound : WellFormed (petriNet (netOf s)) → (r : Record) → soundFor s r ≡ true → AsPublished s r (orderOfLines (netOf s) (heldIn s r .lines))
-  pub keys : (cs : List (List ℕ)) (t : Tally) → KeysAsPublished s (sessionAfter s cs t .session)
-  pub soundKeys : (r : Record) → soundFor s r ≡ true → KeysAsPublished s r
+  pub sessions : WellFormed (petriNet (netOf s)) → (cs : List (List ℕ)) (t : Tally) → RecordAsPublished s (sessionAfter s cs t .session) (orderIn s cs)
+  pub sound : WellFormed (petriNet (netOf s)) → (r : Record) → soundFor s r ≡ true → RecordAsPublished s r (orderOfLines (netOf s) (heldIn s r .lines))
+  pub keys : (cs : List (List ℕ)) (t : Tally) → RecordKeysAsPublished s (sessionAfter s cs t .session)
+  pub soundKeys : (r : Record) → soundFor s r ≡ true → RecordKeysAsPublished s r
 
 abbrev pub Demand2Published : Type 0
 Demand2Published = (s : List ℕ) → clear (sheetChecks s) ≡ true → FollowsPublished s

@@ -30,7 +30,7 @@ use Rattle.published.specs.Backtracking.{BacktrackEnabled, leavesBack, r
 use Rattle.published.specs.Causal.{Order, CausalEnabled}
 use Rattle.published.specs.Sheets.{anchor, Allowed, Present, petriNet, marksOf, historyOf}
 use Rattle.published.proofs.Firing.{goes-to}
-use Rattle.published.proofs.Reversal.{moved-leave, leave-moved, reversed-to, reversed-from}
+use Rattle.published.proofs.Reversal.{moved-leave-back, leave-back-moved, reversed-to, reversed-from}
 use Rattle.published.proofs.Lines.{one-line, line-live, live-line, highest-is, builtOn-e, builtOn-i}
 use Rattle.published.proofs.Sessions.{good-now, line-listed, Untouched, untouched}
 use Rattle.published.proofs.Keys.{one-max, undo-live, undo-free, undo-mem, undo-key, undo-latest}
@@ -67,8 +67,8 @@ module _ (net : Net) (ok : netRule net ≡ true) (j : Journal) (H : Held net j) 
         let t : Transition = lineOf k (j .lines) .transition in
         let its : inSet (lineOf k (j .lines) .moved) b ≡ moves (U .before .bonds) (arcsOf net t .entries) b =
         ap (λ (m : List Bool). inSet m b) (f .moves-m) ∙ mem-moved net (U .before) (U .good) (arcsOf net t) (fits net ok t (f .listed)) b in (
-          (λ h. moved-leave net ok (U .before) (U .good) t (f .listed) (f .placed) (f .present) (f .absent) (f .together) (j .marking) (good-now net ok j H) (U .like) b (sym its ∙ h)),
-          (λ h. its ∙ leave-moved net ok (U .before) (U .good) t (f .listed) (f .placed) (f .present) (f .absent) (f .together) (j .marking) (good-now net ok j H) (U .like) b h),
+          (λ h. moved-leave-back net ok (U .before) (U .good) t (f .listed) (f .placed) (f .present) (f .absent) (f .together) (j .marking) (good-now net ok j H) (U .like) b (sym its ∙ h)),
+          (λ h. its ∙ leave-back-moved net ok (U .before) (U .good) t (f .listed) (f .placed) (f .present) (f .absent) (f .together) (j .marking) (good-now net ok j H) (U .like) b h),
         )
 
   -- ---- all that a firing put is where it put it, while its bases are left alone

@@ -14,7 +14,7 @@ use Rattle.net.proofs.Cases.{netB-rule}
 use Rattle.published.specs.Sets.{Iff}
 use Rattle.published.specs.Causal.{Order, noOrder}
 use Rattle.published.specs.Sheets.{marksOf, historyOf, orderAfter, orderOfLines}
-use Rattle.published.specs.Claims.{Initial, AsPublished, Published}
+use Rattle.published.specs.Claims.{Initial, JournalAsPublished, Published}
 use Rattle.published.proofs.Nets.{definition2, well-formed, is-marking, each-in-one-place}
 use Rattle.published.proofs.Enabling.{enabled-iff}
 use Rattle.published.proofs.Firing.{moved-out, fired-marks}
@@ -30,7 +30,7 @@ swap : {X Y : Type 0} → Iff X Y → Iff Y X
 swap (f, g) = (g, f)
 
 module _ (net : Net) (ok : netRule net ≡ true) where
-  pub as-published : (j : Journal) → Held net j → (R : Order) → Agrees j R → AsPublished net j R
+  pub as-published : (j : Journal) → Held net j → (R : Order) → Agrees j R → JournalAsPublished net j R
   as-published j H R A =
       let G : Good net (j .marking) = good-now net ok j H in
       record {

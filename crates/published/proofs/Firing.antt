@@ -114,13 +114,13 @@ module _ (net : Net) (ok : netRule net ≡ true) (s : Marking) (G : Good net s) 
 
   -- ---- the bases that leave
 
-  pub moved-leave : (p : ℕ) → moves (s .bonds) (arcsOf net t .entries) p ≡ true → Somewhere (leaves (petriNet net) (marksOf net s) t) p
+  moved-leave : (p : ℕ) → moves (s .bonds) (arcsOf net t .entries) p ≡ true → Somewhere (leaves (petriNet net) (marksOf net s) t) p
   moved-leave p k =
       let (e, m, l) = moves-led (arcsOf net t) (s .bonds) p k in
       let F = fits net ok t h in
       (e .from, (e .base, (tt, e, m, refl, refl), leads-con net s G (e .from) (e .base) (base p) (F .bases e m) (at-home (arcsOf net t) s r13 e m) (leads-below net s G l (F .bases e m)) l))
 
-  pub leave-moved : (p : ℕ) → Somewhere (leaves (petriNet net) (marksOf net s) t) p → moves (s .bonds) (arcsOf net t .entries) p ≡ true
+  leave-moved : (p : ℕ) → Somewhere (leaves (petriNet net) (marksOf net s) t) p → moves (s .bonds) (arcsOf net t .entries) p ≡ true
   leave-moved p (x, (b, (_, e, m, r, _), c)) = led-moves (arcsOf net t) (s .bonds) e m p (rw r (con-leads net s G x b (base p) c .3))
 
 module _ (net : Net) (ok : netRule net ≡ true) (s : Marking) (G : Good net s) (t : Transition) (e : clear (enableChecks net s t) ≡ true) where

@@ -19,7 +19,7 @@ use Rattle.published.specs.Forward.{Enabled, leaves, firedMarks}
 use Rattle.published.specs.Backtracking.{BacktrackEnabled, leavesBack, reversedMarks}
 use Rattle.published.specs.Causal.{noOrder, CausalEnabled}
 use Rattle.published.specs.Sheets.{petriNet, marksOf, historyOf, orderAfter, orderOfLines}
-use Rattle.published.specs.Claims.{AsPublished}
+use Rattle.published.specs.Claims.{JournalAsPublished}
 use Rattle.published.proofs.Claims.{published-B}
 
 abbrev N : PetriNet
@@ -29,7 +29,7 @@ N = petriNet netB
 abbrev after : List (List ℕ) → Journal
 after cs = play netB cs (begin netB)
 
-shown : (cs : List (List ℕ)) → AsPublished netB (play netB cs (begin netB)) (orderAfter netB cs (begin netB) noOrder)
+shown : (cs : List (List ℕ)) → JournalAsPublished netB (play netB cs (begin netB)) (orderAfter netB cs (begin netB) noOrder)
 shown cs = published-B .states (published-B .wellFormed) cs
 
 abbrev start : Marks
@@ -111,7 +111,7 @@ handed = record {
       ∷ [];
 }
 
-shown-handed : AsPublished netB handed (orderOfLines netB (handed .lines))
+shown-handed : JournalAsPublished netB handed (orderOfLines netB (handed .lines))
 shown-handed = published-B .histories (published-B .wellFormed) handed refl
 
 pub depends-handed : orderOfLines netB (handed .lines) (transition 0) 5 (transition 1) 9

@@ -177,14 +177,14 @@ module _ (net : Net) (ok : netRule net ≡ true) (s : Marking) (G : Good net s) 
 
   -- ---- the bases that leave by Definition 7 are the moved ones
 
-  pub moved-leave : (p : ℕ) → in-m p ≡ true → Somewhere (leavesBack (petriNet net) (marksOf net y) t) p
-  moved-leave p c =
+  pub moved-leave-back : (p : ℕ) → in-m p ≡ true → Somewhere (leavesBack (petriNet net) (marksOf net y) t) p
+  moved-leave-back p c =
       let (e, m, l) = moves-led a (s .bonds) p c in
       let l′ : Leads (y .bonds) (e .base) p = still-leads l (entry-moves net s G a F e m) in
       (e .to, (e .base, (tt, e, m, refl, refl), leads-con net y H (e .to) (e .base) (base p) (F .bases e m) (at-out e m) (leads-below net y H l′ (F .bases e m)) l′))
 
-  pub leave-moved : (p : ℕ) → Somewhere (leavesBack (petriNet net) (marksOf net y) t) p → in-m p ≡ true
-  leave-moved p (x, (b, (_, e, m, r, _), c)) =
+  pub leave-back-moved : (p : ℕ) → Somewhere (leavesBack (petriNet net) (marksOf net y) t) p → in-m p ≡ true
+  leave-back-moved p (x, (b, (_, e, m, r, _), c)) =
       let l : Leads (y .bonds) (e .base) p = rw r (con-leads net y H x b (base p) c .3) in
       led-in-m l (entry-moves net s G a F e m)
 

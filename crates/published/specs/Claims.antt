@@ -69,7 +69,7 @@ pub record Initial (net : Net) (M : Marks) (H : Keys) : Type 0 where
 
 -- ---- A journal j, with the relation R for ≺
 
-pub record AsPublished (net : Net) (j : Journal) (R : Order) : Type 0 where
+pub record JournalAsPublished (net : Net) (j : Journal) (R : Order) : Type 0 where
   -- its marking is one of the chapter's, with each base in exactly one place
   pub marking : IsMarking (petriNet net) (marksOf net (j .marking))
   pub onePlace : EachInOnePlace (petriNet net) (marksOf net (j .marking))
@@ -110,8 +110,8 @@ pub record AsPublished (net : Net) (j : Journal) (R : Order) : Type 0 where
       → Iff (laterWithCommon (undoReply net j k .journal) u i v n) (reversedOrder (historyOf j) R (lineOf k (j .lines) .transition) u i v n)
 
 -- A firing gives the history of Definition 5. (T-03 changes this claim alone.)
-abbrev pub KeysAsPublished : Net → Journal → Type 0
-KeysAsPublished net j = (t u : Transition) (k : ℕ) → Iff (historyOf (fireReply net j t .journal) u k) (firedKeys (petriNet net) (historyOf j) t u k)
+abbrev pub JournalKeysAsPublished : Net → Journal → Type 0
+JournalKeysAsPublished net j = (t u : Transition) (k : ℕ) → Iff (historyOf (fireReply net j t .journal) u k) (firedKeys (petriNet net) (historyOf j) t u k)
 
 -- ---- All of it, of a net and every list of commands on it. ≺ is what Definitions 10 and 12 keep over the commands; of a sound
 -- history that is handed in, whose past is not known, what Definition 10 gives on the forward run of its lines. `states` is
@@ -123,7 +123,7 @@ pub record Published (net : Net) : Type 0 where
   pub wellFormed : WellFormed (petriNet net)
   pub byCases : ByCases net
   pub initial : Initial net (marksOf net (begin net .marking)) (historyOf (begin net))
-  pub states : WellFormed (petriNet net) → (cs : List (List ℕ)) → AsPublished net (play net cs (begin net)) (orderAfter net cs (begin net) noOrder)
-  pub histories : WellFormed (petriNet net) → (j : Journal) → sound net j ≡ true → AsPublished net j (orderOfLines net (j .lines))
-  pub keys : (cs : List (List ℕ)) → KeysAsPublished net (play net cs (begin net))
-  pub historyKeys : (j : Journal) → sound net j ≡ true → KeysAsPublished net j
+  pub states : WellFormed (petriNet net) → (cs : List (List ℕ)) → JournalAsPublished net (play net cs (begin net)) (orderAfter net cs (begin net) noOrder)
+  pub histories : WellFormed (petriNet net) → (j : Journal) → sound net j ≡ true → JournalAsPublished net j (orderOfLines net (j .lines))
+  pub keys : (cs : List (List ℕ)) → JournalKeysAsPublished net (play net cs (begin net))
+  pub historyKeys : (j : Journal) → sound net j ≡ true → JournalKeysAsPublished net j
