@@ -1,6 +1,5 @@
 -- A firing that none of 12 to 16 refuses gives exactly the marking of Definition 5, bases and bonds, place by place, and moves
--- the bases that leave by it.
--- Assumes that the net meets the sheet's rules, and a good marking.
+-- the bases that leave by it. Assumes that the net meets the sheet's rules, and a good marking.
 use mathlib.Core.Path.{_≡_, refl, sym, _∙_}
 use mathlib.Core.Logic.{_⊎_, inl, inr}
 use mathlib.Core.Bool.{true, false}
