@@ -1,13 +1,13 @@
 -- Demands 1 and 2: one command on any sheet, record and tally.
 -- Assumes nothing.
 use mathlib.Core.Path.{_≡_, refl, sym, _∙_, ap}
-use mathlib.Core.Bool.{Bool, true, false, not, _&&_}
-use mathlib.Core.List.{List, [], _∷_, _++_}
+use mathlib.Core.Bool.{Bool, true, false, not}
+use mathlib.Core.List.{List, _∷_}
 use Prim.Native.Nat.{ℕ}
 use lib.Dec.{eqb, ltb}
 use borrow.Author.Tests.{eqb-true, eq-eqb}
 use Rattle.causal.proofs.Tests.{test, both}
-use Rattle.net.specs.Tests.{pick, all}
+use Rattle.net.specs.Tests.{pick}
 use Rattle.net.specs.Checks.{Check, check, clear, first}
 use Rattle.net.specs.Journal.{kindOf, transitionNamed, keyNamed, fireReply, undoReply, checks, fireChecks, undoChecks}
 use Rattle.net.proofs.Tests.{all-append}
@@ -24,31 +24,8 @@ use Rattle.session.specs.declared.Answer.the-variants.{Fired, Undone, Refused}
 use Rattle.session.specs.declared.Outcome.{Outcome}
 use Rattle.session.proofs.Steps.{outcome-is}
 use Rattle.session.proofs.Answering.{sheet-positive}
-use Rattle.claims.specs.Demands.{oneMoreRefused, Demand1, FirstHolds, Demand2}
-
--- ---- lists of checks
-
-abbrev positive : List Check → Bool
-positive cs = all (λ (c : Check). ltb 0 (c .number)) cs
-
--- where some check holds, the first that does is found
-first-found : (cs : List Check) → clear cs ≡ false → FirstHolds (first cs) cs
-first-found [] h = both true refl h
-first-found (c ∷ cs) h = go (c .holds) refl h (first-found cs)
-  where
-    go : (b : Bool) → c .holds ≡ b → (not b && clear cs) ≡ false → (clear cs ≡ false → FirstHolds (first cs) cs) → FirstHolds (pick b (c .number) (first cs)) (c ∷ cs)
-    go true e d ih = ([], cs, (λ i. record { number = c .number; holds = e i } ∷ cs), refl)
-    go false e d ih = let (before, after, q, k) = ih d in (c ∷ before, after, (λ i. c ∷ q i), rw e k)
-
-found-first : (n : ℕ) (before after : List Check) → clear before ≡ true → (first (before ++ check n true ∷ after) ≡ n) × (clear (before ++ check n true ∷ after) ≡ false)
-found-first n [] after h = (refl, refl)
-found-first n (c ∷ before) after h = go (c .holds) h (found-first n before after)
-  where
-    go : (b : Bool) → (not b && clear before) ≡ true
-        → (clear before ≡ true → (first (before ++ check n true ∷ after) ≡ n) × (clear (before ++ check n true ∷ after) ≡ false))
-        → (pick b (c .number) (first (before ++ check n true ∷ after)) ≡ n) × ((not b && clear (before ++ check n true ∷ after)) ≡ false)
-    go true d ih = both false d refl
-    go false d ih = ih d
+use Rattle.claims.specs.Demands.{oneMoreRefused, Demand1, Demand2}
+use Rattle.claims.proofs.Checks.{positive, first-found, found-first}
 
 -- ---- the numbers of all checks of a command
 

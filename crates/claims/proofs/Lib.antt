@@ -1,6 +1,10 @@
--- The proofs of the demands.
+-- The demands, proved.
+pub mod Checks
+pub mod Sheets
 pub mod Answers
+pub mod Records
 pub mod Sessions
 pub mod Counts
 pub mod Published
 pub mod Demands
+pub mod Instances

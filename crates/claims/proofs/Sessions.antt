@@ -4,12 +4,19 @@ use mathlib.Core.Path.{_≡_, _∙_, ap}
 use mathlib.Core.Bool.{true}
 use mathlib.Core.List.{List, map}
 use Prim.Native.Nat.{ℕ, _≤_}
+use Rattle.causal.proofs.Reorderings.{reordering-same}
 use Rattle.net.specs.Limits.{maxBases}
 use Rattle.net.specs.Rules.{netRule}
 use Rattle.net.specs.Checks.{clear}
-use Rattle.net.specs.Journal.{LiveLine}
-use Rattle.net.specs.Claims as N
+use Rattle.net.specs.Firing.{inSet}
+use Rattle.net.specs.Journal.{LiveLine, Journal}
 use Rattle.net.specs.Claims.{fireCommands}
+use Rattle.net.specs.History.{linesInForm, replays}
+use Rattle.net.proofs.Tests.{and-l}
+use Rattle.net.proofs.Keys.{up-distinct}
+use Rattle.net.proofs.Journal.{Held}
+use Rattle.net.proofs.History.{journal-sound}
+use Rattle.net.proofs.Claimed.{Forward}
 use Rattle.net.proofs.Demand3 as N′
 use Rattle.format.specs.Parts.{basesOf}
 use Rattle.format.specs.NetOf.{netOf}
@@ -18,14 +25,19 @@ use Rattle.tally.specs.declared.Tally.{Tally}
 use Rattle.session.specs.Records.{recordOf}
 use Rattle.session.specs.Runs.{answered}
 use Rattle.session.proofs.Steps.{follows-fresh}
-use Rattle.claims.specs.Demands.{journalAfter, ForwardRun, Demand3}
+use Rattle.claims.specs.Sessions.{journalAfter}
+use Rattle.claims.specs.Demands.{ForwardRun, Demand3}
 
 module _ (s : List ℕ) (accepted : clear (sheetChecks s) ≡ true) (ok : netRule (netOf s) ≡ true) (few : basesOf s ≤ maxBases) where
   -- a forward run of the journal is one of the record
-  forward : (ls : List LiveLine) (z : _) → N.Forward (netOf s) ls z → (t : Tally) → ForwardRun s ls z t
+  forward : (ls : List LiveLine) (z : _) → Forward (netOf s) ls z → (t : Tally) → ForwardRun s ls z t
   forward ls z F t =
       let y = follows-fresh s accepted ok few (fireCommands ls) t in
-      record { fired = y .answers ∙ ap (map answered) (F .answer); session = y .session ∙ ap recordOf (F .journal) }
+      record { fired = y .answers ∙ ap (map answered) (F .answer); session = y .session ∙ ap recordOf (F .journal); journal = F .journal }
+
+  -- what holds of a journal's lines runs forward
+  pub held-runs : (j : Journal) → Held (netOf s) j → (t : Tally) → ForwardRun s (j .lines) (j .marking) t
+  held-runs j H t = forward (j .lines) (j .marking) (N′.held-forward (netOf s) ok j H (j .lines) (reordering-same inSet (j .lines) (up-distinct (j .lines) (H .up)))) t
 
   pub demand3 : (cs : List (List ℕ)) (t : Tally) → Demand3 s cs t
   demand3 cs t =
@@ -34,6 +46,7 @@ module _ (s : List ℕ) (accepted : clear (sheetChecks s) ≡ true) (ok : netRul
       record {
         session = y .session;
         answers = y .answers;
+        serials = and-l (linesInForm (journalAfter s cs .lines)) (replays (netOf s) (netOf s .start) (journalAfter s cs .lines) (journalAfter s cs .marking)) (journal-sound (netOf s) ok cs);
         inOrder = forward (journalAfter s cs .lines) (journalAfter s cs .marking) (D .inOrder);
         reordered = λ ls R. forward ls (journalAfter s cs .marking) (D .reordered ls R);
       }

@@ -1,5 +1,6 @@
--- The customer's three demands and document 01's totals, as statements about `commandOf` and its fold over a list of
--- commands. The contract of the public command equates the call with `commandOf`. Statements only; proofs/ proves each.
+-- The customer's three demands and document 01's totals, as statements about `checked`, `startOf`, `commandOf` and its fold
+-- over a list of commands. The contracts of check_sheet, start and the public command equate the calls with the first three.
+-- Statements only; proofs/ proves each.
 --
 -- Not stated here: that a call reads and writes nothing outside what it was lent. That is the checker's own part: it
 -- proves of every function that each index is within its slice or array.
@@ -13,20 +14,54 @@ use Rattle.causal.specs.Reorderings.{Reordering}
 use Rattle.net.specs.Net.{Marking}
 use Rattle.net.specs.Checks.{Check, check, clear, first}
 use Rattle.net.specs.Firing.{inSet}
-use Rattle.net.specs.Journal.{LiveLine, Journal, kindOf, transitionNamed, keyNamed, fireReply, undoReply, begin, play, answers}
+use Rattle.net.specs.Connection.{Leads, connected}
+use Rattle.net.specs.Journal.{LiveLine, kindOf, transitionNamed, keyNamed, fireReply, undoReply, begin, answers}
+use Rattle.net.specs.History.{linesInForm}
 use Rattle.net.specs.Claims.{fireCommands, numbered, allFired, Totals}
+use Rattle.net.specs.declared.Bond.{Bond}
+use Rattle.published.specs.Sets.{Iff}
 use Rattle.format.specs.NetOf.{netOf}
-use Rattle.sheet.specs.Checks.{sheetChecks}
+use Rattle.sheet.specs.Checks.{sheetChecks, checked, sheetNumber}
+use Rattle.sheet.specs.declared.SheetAnswer.the-variants as S
 use Rattle.tally.specs.Counts.{maxCount, oneMore, zeroTally}
 use Rattle.tally.specs.declared.Tally.{Tally}
-use Rattle.session.specs.Records.{recordOf}
 use Rattle.session.specs.declared.Record.{Record}
-use Rattle.session.specs.Records.{heldIn}
-use Rattle.session.specs.Commands.{freshOf, refusal, answerNumber, outcomeOf, commandChecks, commandOf}
-use Rattle.session.specs.Runs.{answered, Session, runOf}
+use Rattle.session.specs.Records.{heldIn, recordOf, soundFor}
+use Rattle.session.specs.Commands.{freshOf, zeroRecord, startOf, startNumber, refusal, answerNumber, outcomeOf, commandChecks, commandOf}
+use Rattle.session.specs.Runs.{answered}
+use Rattle.session.specs.declared.StartAnswer.the-variants.{Started, NotStarted}
 use Rattle.session.specs.declared.Answer.the-variants.{Refused}
+use Rattle.claims.specs.Sessions.{journalAfter, sessionAfter}
+use Rattle.claims.specs.Published.{Demand2Published}
+
+-- ---- What the definitions of firing rest on
+
+-- `connected`, which is computed, is document 01's "couplings lead from one to the other".
+abbrev pub Connection : Type 0
+Connection = (bs : List Bond) (p q : ℕ) → Iff (connected bs p q ≡ true) (Leads bs p q)
 
 -- ---- Demand 1: every sheet, record and command, however mangled, is answered by acceptance or by one number
+
+-- The check of number n is the first that holds: those before it do not.
+abbrev pub FirstHolds : ℕ → List Check → Type 0
+FirstHolds n cs = (before : List Check) × (after : List Check) × (cs ≡ before ++ check n true ∷ after) × (clear before ≡ true)
+
+-- A sheet alone.
+pub record SheetAnswered (s : List ℕ) : Type 0 where
+  -- it is accepted exactly where none of its checks holds, and refused by n exactly where n is the first that does
+  pub accepted : Iff (checked s ≡ S.Accepted) (clear (sheetChecks s) ≡ true)
+  pub refused : (n : ℕ) → Iff (checked s ≡ S.Refused n) (FirstHolds n (sheetChecks s))
+  -- which is one of 1 to 9
+  pub numbers : (n : ℕ) → checked s ≡ S.Refused n → (1 ≤ n) × (n ≤ 9)
+  pub number : sheetNumber (checked s) ≡ first (sheetChecks s)
+
+-- Starting a session on a sheet: the fresh record, or a record of zeros with the sheet's refusal.
+pub record SheetStarts (s : List ℕ) : Type 0 where
+  pub accepted : checked s ≡ S.Accepted → startOf s ≡ record { answer = Started; session = freshOf s }
+  pub refused : (n : ℕ) → checked s ≡ S.Refused n → startOf s ≡ record { answer = NotStarted n; session = zeroRecord }
+  pub number : startNumber (startOf s .answer) ≡ sheetNumber (checked s)
+
+-- A command.
 
 -- the tally with one more refused; a count at 65,535 stays there
 abbrev pub oneMoreRefused : Tally → Tally
@@ -41,12 +76,8 @@ pub record Demand1 (s : List ℕ) (r : Record) (t : Tally) (c : List ℕ) : Type
   pub refused : (n : ℕ) → commandOf s r t c .outcome .answer ≡ Refused n
       → commandOf s r t c ≡ record { outcome = refusal r n; tally = oneMoreRefused t }
 
--- ---- Demand 2: firing and taking back give exactly what document 01's definitions give (that these are the published ones
--- is Published.antt's claim)
-
--- The check of number n is the first that holds: those before it do not.
-abbrev pub FirstHolds : ℕ → List Check → Type 0
-FirstHolds n cs = (before : List Check) × (after : List Check) × (cs ≡ before ++ check n true ∷ after) × (clear before ≡ true)
+-- ---- Demand 2: firing and taking back give exactly what document 01's definitions give. (That these are the published ones
+-- is `Demand2Published`.)
 
 pub record Demand2 (s : List ℕ) (r : Record) (t : Tally) (c : List ℕ) : Type 0 where
   -- a firing that no check refuses is the journal's firing, on what the record holds
@@ -62,28 +93,32 @@ pub record Demand2 (s : List ℕ) (r : Record) (t : Tally) (c : List ℕ) : Type
 
 -- ---- Demand 3: one claim about a whole list of commands on an accepted sheet, from a fresh record
 
--- what the journal holds after the commands
-abbrev pub journalAfter : List ℕ → List (List ℕ) → Journal
-journalAfter s cs = play (netOf s) cs (begin (netOf s))
-
--- the session after the commands
-abbrev pub sessionAfter : List ℕ → List (List ℕ) → Tally → Session
-sessionAfter s cs t = runOf s cs (freshOf s) t
-
 -- The lines' transitions, given as commands of kind 1 and nothing else from another fresh record, with any tally: each is
 -- answered `fired`, each moves the bases on its line, and the record ends in exactly the marking z.
 pub record ForwardRun (s : List ℕ) (ls : List LiveLine) (z : Marking) (t : Tally) : Type 0 where
   pub fired : sessionAfter s (fireCommands ls) t .answers ≡ map answered (allFired 0 ls)
   pub session : sessionAfter s (fireCommands ls) t .session ≡ recordOf (record { marking = z; lines = numbered 0 ls })
+  -- and so does the run's own journal
+  pub journal : journalAfter s (fireCommands ls) ≡ record { marking = z; lines = numbered 0 ls }
 
 pub record Demand3 (s : List ℕ) (cs : List (List ℕ)) (t : Tally) : Type 0 where
   -- the record is the journal in the record's form, and each answer was the journal's
   pub session : sessionAfter s cs t .session ≡ recordOf (journalAfter s cs)
   pub answers : sessionAfter s cs t .answers ≡ map answered (answers (netOf s) cs (begin (netOf s)))
+  -- the lines left stand in the order of their keys, which strictly ascend from 1 to 65,535; they are at most 256
+  pub serials : linesInForm (journalAfter s cs .lines) ≡ true
   -- the firings not taken back run forward to the session's places and bonds, in their own order
   pub inOrder : (t′ : Tally) → ForwardRun s (journalAfter s cs .lines) (journalAfter s cs .marking) t′
   -- and in every reordering that keeps the order of any two that moved a common base
   pub reordered : (ls : List LiveLine) → Reordering inSet (journalAfter s cs .lines) ls → (t′ : Tally) → ForwardRun s ls (journalAfter s cs .marking) t′
+
+-- Sound records (01, commands, record, tally), those that refusal 10 lets pass, handed in or not: a fresh one is sound; a command
+-- on a sound one hands back a sound one; and its live firings, given as commands from a fresh record, run forward to what it
+-- holds.
+pub record Soundness (s : List ℕ) : Type 0 where
+  pub fresh : soundFor s (freshOf s) ≡ true
+  pub stays : (r : Record) (t : Tally) (c : List ℕ) → soundFor s r ≡ true → soundFor s (commandOf s r t c .outcome .session) ≡ true
+  pub forward : (r : Record) → soundFor s r ≡ true → (t : Tally) → ForwardRun s (heldIn s r .lines) (heldIn s r .marking) t
 
 -- ---- Document 01's totals
 
@@ -93,10 +128,16 @@ pub record SessionTotals (s : List ℕ) (cs : List (List ℕ)) : Type 0 where
   -- over at most 65,535 commands from a tally of zeros, fired less undone is the number of live firings
   pub live : length cs ≤ maxCount → sessionAfter s cs zeroTally .tally .fired ≡ sessionAfter s cs zeroTally .tally .undone + sessionAfter s cs zeroTally .session .live
 
--- ---- All of it: 1 and 2 of every sheet, record, tally and command; 3 and the totals of every accepted sheet
+-- ---- All of it: 1 and 2 of every sheet, record, tally and command; the published definition, 3 and the totals of every accepted
+-- sheet
 
 pub record Demands : Type 0 where
+  pub connection : Connection
+  pub sheets : (s : List ℕ) → SheetAnswered s
+  pub starts : (s : List ℕ) → SheetStarts s
   pub demand1 : (s : List ℕ) (r : Record) (t : Tally) (c : List ℕ) → Demand1 s r t c
   pub demand2 : (s : List ℕ) (r : Record) (t : Tally) (c : List ℕ) → Demand2 s r t c
+  pub published : Demand2Published
+  pub soundness : (s : List ℕ) → clear (sheetChecks s) ≡ true → Soundness s
   pub demand3 : (s : List ℕ) → clear (sheetChecks s) ≡ true → (cs : List (List ℕ)) (t : Tally) → Demand3 s cs t
   pub totals : (s : List ℕ) → clear (sheetChecks s) ≡ true → (cs : List (List ℕ)) → SessionTotals s cs

@@ -1,3 +1,4 @@
 -- The demands.
-pub mod Demands
+pub mod Sessions
 pub mod Published
+pub mod Demands

@@ -4,28 +4,32 @@
 -- M and H are the marking and the history that a record holds, place by place and transition by transition; ≺ is what
 -- Definitions 10 and 12 keep over the session's commands. Two sets are the same where each has what the other has.
 use mathlib.Core.Path.{_≡_}
+use mathlib.Core.Logic.{_⊎_}
 use mathlib.Core.Bool.{true}
-use mathlib.Core.List.{List, []}
+use mathlib.Core.List.{List, [], _∷_, _++_}
 use Prim.Native.Nat.{ℕ}
 use lib.Dec.{eqb}
+use Rattle.causal.specs.Lists.{Mem}
+use Rattle.net.specs.Firing.{inSet}
 use Rattle.net.specs.Checks.{clear}
-use Rattle.net.specs.Journal.{kindOf, numberOf, transitionNamed, readChecks, spaceChecks, begin}
+use Rattle.net.specs.Journal.{LiveLine, kindOf, numberOf, without, transitionNamed, readChecks, spaceChecks, begin}
 use Rattle.net.specs.declared.Transition.{Transition}
 use Rattle.published.specs.Sets.{Iff, Item, Max}
 use Rattle.published.specs.Nets.{Definition2, WellFormed}
-use Rattle.published.specs.States.{Marks, IsMarking, EachInOnePlace, Keys, noKeys}
-use Rattle.published.specs.Forward.{Enabled, firedMarks, firedKeys}
-use Rattle.published.specs.Backtracking.{BacktrackEnabled, reversedMarks, reversedKeys}
-use Rattle.published.specs.Causal.{Order, noOrder, CausalEnabled}
-use Rattle.published.specs.Sheets.{petriNet, marksOf, historyOf, orderAfter, laterWithCommon}
+use Rattle.published.specs.States.{Marks, Somewhere, IsMarking, EachInOnePlace, Keys}
+use Rattle.published.specs.Forward.{Enabled, leaves, firedMarks, firedKeys}
+use Rattle.published.specs.Backtracking.{BacktrackEnabled, leavesBack, reversedMarks, reversedKeys}
+use Rattle.published.specs.Causal.{Order, noOrder, firedOrder, CausalEnabled, reversedOrder}
+use Rattle.published.specs.Sheets.{petriNet, marksOf, historyOf, orderAfter, orderOfLines, laterWithCommon}
+use Rattle.published.specs.Claims.{ByCases, Initial}
 use Rattle.format.specs.NetOf.{netOf}
 use Rattle.sheet.specs.Checks.{sheetChecks}
 use Rattle.tally.specs.declared.Tally.{Tally}
 use Rattle.session.specs.declared.Record.{Record}
-use Rattle.session.specs.Records.{heldIn, Sound}
-use Rattle.session.specs.Commands.{commandOf}
+use Rattle.session.specs.Records.{heldIn, soundFor}
+use Rattle.session.specs.Commands.{freshOf, commandOf}
 use Rattle.session.specs.declared.Answer.the-variants.{Fired, Undone}
-use Rattle.claims.specs.Demands.{sessionAfter}
+use Rattle.claims.specs.Sessions.{sessionAfter}
 
 -- ---- The state that a record holds
 
@@ -41,64 +45,90 @@ orderIn s cs = orderAfter (netOf s) cs (begin (netOf s)) noOrder
 
 -- ---- What a command does
 
--- The command c fires the transition v: it is answered Fired, and gives the marking of Definition 5.
-pub record CommandFires (s : List ℕ) (r : Record) (t : Tally) (c : List ℕ) (v : Transition) : Type 0 where
+-- the record that a command hands back
+abbrev pub recordAfter : List ℕ → Record → Tally → List ℕ → Record
+recordAfter s r t c = commandOf s r t c .outcome .session
+
+-- The line l is a firing of v, with the answer's key, and the moved bases on it are those that leave some place.
+pub record LineMoves (s : List ℕ) (r : Record) (t : Tally) (c : List ℕ) (v : Transition) (leaving : Marks) (l : LiveLine) : Type 0 where
+  pub transition : l .transition ≡ v
+  pub key : l .key ≡ commandOf s r t c .outcome .key
+  pub moved : (a : ℕ) → Iff (inSet (l .moved) a ≡ true) (Somewhere leaving a)
+
+-- The command c fires the transition v: it is answered Fired, and gives the marking of Definition 5 and ≺ of Definition 10.
+-- Its line goes at the end, and has as moved bases those that leave by Definition 5.
+pub record CommandFires (s : List ℕ) (r : Record) (R : Order) (t : Tally) (c : List ℕ) (v : Transition) : Type 0 where
   pub answer : commandOf s r t c .outcome .answer ≡ Fired
-  pub marking : (x : ℕ) (i : Item) → Iff (marksIn s (commandOf s r t c .outcome .session) x i) (firedMarks (petriNet (netOf s)) (marksIn s r) v x i)
+  pub marking : (x : ℕ) (i : Item) → Iff (marksIn s (recordAfter s r t c) x i) (firedMarks (petriNet (netOf s)) (marksIn s r) v x i)
+  pub line : (l : LiveLine) × (heldIn s (recordAfter s r t c) .lines ≡ heldIn s r .lines ++ (l ∷ [])) × LineMoves s r t c v (leaves (petriNet (netOf s)) (marksIn s r) v) l
+  pub order : (u : Transition) (i : ℕ) (w : Transition) (k : ℕ)
+      → Iff (laterWithCommon (heldIn s (recordAfter s r t c)) u i w k) (firedOrder (petriNet (netOf s)) (marksIn s r) (historyIn s (recordAfter s r t c)) R v u i w k)
 
 -- The command c takes back the latest firing of v: it is answered Undone, and gives the marking and the history of
--- Definition 7, which are those of Definition 12.
-pub record CommandTakesBack (s : List ℕ) (r : Record) (t : Tally) (c : List ℕ) (v : Transition) : Type 0 where
+-- Definition 7, which are those of Definition 12, and ≺ of Definition 12, of kind 2 as of kind 3 (the chapter's backtracking
+-- keeps no ≺). The firing's line goes, and its moved bases are those that leave by Definition 7.
+pub record CommandTakesBack (s : List ℕ) (r : Record) (R : Order) (t : Tally) (c : List ℕ) (v : Transition) : Type 0 where
   pub answer : commandOf s r t c .outcome .answer ≡ Undone
-  pub marking : (x : ℕ) (i : Item) → Iff (marksIn s (commandOf s r t c .outcome .session) x i) (reversedMarks (petriNet (netOf s)) (marksIn s r) v x i)
-  pub keys : (u : Transition) (k : ℕ) → Iff (historyIn s (commandOf s r t c .outcome .session) u k) (reversedKeys (historyIn s r) v u k)
+  pub marking : (x : ℕ) (i : Item) → Iff (marksIn s (recordAfter s r t c) x i) (reversedMarks (petriNet (netOf s)) (marksIn s r) v x i)
+  pub keys : (u : Transition) (k : ℕ) → Iff (historyIn s (recordAfter s r t c) u k) (reversedKeys (historyIn s r) v u k)
+  pub line : (l : LiveLine) × Mem l (heldIn s r .lines) × (heldIn s (recordAfter s r t c) .lines ≡ without (l .key) (heldIn s r .lines))
+      × LineMoves s r t c v (leavesBack (petriNet (netOf s)) (marksIn s r) v) l
+  pub order : (u : Transition) (i : ℕ) (w : Transition) (k : ℕ) → Iff (laterWithCommon (heldIn s (recordAfter s r t c)) u i w k) (reversedOrder (historyIn s r) R v u i w k)
 
--- ---- A record r, with the relation R for ≺, and every command on it
+-- ---- A record r, with the relation R for ≺, and every command on it. Where something "is done only if", what was done is said
+-- too.
 
-pub record AsPublished (s : List ℕ) (r : Record) (R : Order) : Type 0 where
+pub record RecordAsPublished (s : List ℕ) (r : Record) (R : Order) : Type 0 where
   -- the record holds a marking of the net, with each base in exactly one place
   pub marking : IsMarking (petriNet (netOf s)) (marksIn s r)
   pub onePlace : EachInOnePlace (petriNet (netOf s)) (marksIn s r)
-  -- Kind 1. Where the command can be read and one more firing can be kept, it fires its transition if that is forward-enabled
-  -- (Definition 4); and it is answered Fired only then.
+  -- Kind 1. Where the command can be read and one more firing can be kept, it fires its transition if that is one of the net's
+  -- and forward-enabled (Definition 4); and it is answered Fired only then.
   pub fires : (t : Tally) (c : List ℕ) → clear (readChecks c) ≡ true → eqb (kindOf c) 1 ≡ true → clear (spaceChecks (heldIn s r)) ≡ true
       → petriNet (netOf s) .isTransition (transitionNamed c) × Enabled (petriNet (netOf s)) (marksIn s r) (transitionNamed c)
-      → CommandFires s r t c (transitionNamed c)
+      → CommandFires s r R t c (transitionNamed c)
   pub firesOnly : (t : Tally) (c : List ℕ) → commandOf s r t c .outcome .answer ≡ Fired
-      → petriNet (netOf s) .isTransition (transitionNamed c) × Enabled (petriNet (netOf s)) (marksIn s r) (transitionNamed c)
+      → (eqb (kindOf c) 1 ≡ true) × petriNet (netOf s) .isTransition (transitionNamed c) × Enabled (petriNet (netOf s)) (marksIn s r) (transitionNamed c)
+      × CommandFires s r R t c (transitionNamed c)
   -- Kind 2. Where the command can be read, it takes back the latest firing of the transition that is bt-enabled (Definition
   -- 6); and it is answered Undone only if there is one.
   pub undoesLast : (t : Tally) (c : List ℕ) → clear (readChecks c) ≡ true → eqb (kindOf c) 2 ≡ true
-      → (v : Transition) → BacktrackEnabled (petriNet (netOf s)) (historyIn s r) v → CommandTakesBack s r t c v
+      → (v : Transition) → BacktrackEnabled (petriNet (netOf s)) (historyIn s r) v → CommandTakesBack s r R t c v
   pub undoesLastOnly : (t : Tally) (c : List ℕ) → eqb (kindOf c) 2 ≡ true → commandOf s r t c .outcome .answer ≡ Undone
-      → (v : Transition) × BacktrackEnabled (petriNet (netOf s)) (historyIn s r) v
+      → (v : Transition) × petriNet (netOf s) .isTransition v × BacktrackEnabled (petriNet (netOf s)) (historyIn s r) v × CommandTakesBack s r R t c v
   -- Kind 3. Where the command can be read, it takes back the latest firing of a transition that is c-enabled (Definition 11)
   -- if its number is that firing's key; and it is answered Undone only then.
   pub undoes : (t : Tally) (c : List ℕ) → clear (readChecks c) ≡ true → eqb (kindOf c) 3 ≡ true
-      → (v : Transition) → CausalEnabled (petriNet (netOf s)) (marksIn s r) (historyIn s r) R v → Max (historyIn s r v) (numberOf c) → CommandTakesBack s r t c v
+      → (v : Transition) → CausalEnabled (petriNet (netOf s)) (marksIn s r) (historyIn s r) R v → Max (historyIn s r v) (numberOf c) → CommandTakesBack s r R t c v
   pub undoesOnly : (t : Tally) (c : List ℕ) → eqb (kindOf c) 3 ≡ true → commandOf s r t c .outcome .answer ≡ Undone
-      → (v : Transition) × CausalEnabled (petriNet (netOf s)) (marksIn s r) (historyIn s r) R v × Max (historyIn s r v) (numberOf c)
+      → (v : Transition) × petriNet (netOf s) .isTransition v × CausalEnabled (petriNet (netOf s)) (marksIn s r) (historyIn s r) R v
+      × Max (historyIn s r v) (numberOf c) × CommandTakesBack s r R t c v
+  -- and no other kind is answered Undone
+  pub undoesKinds : (t : Tally) (c : List ℕ) → commandOf s r t c .outcome .answer ≡ Undone → (eqb (kindOf c) 2 ≡ true) ⊎ (eqb (kindOf c) 3 ≡ true)
   -- ≺ is document 01's dependence: of higher key, with a common moved base
   pub order : (u : Transition) (i : ℕ) (v : Transition) (k : ℕ) → Iff (R u i v k) (laterWithCommon (heldIn s r) u i v k)
 
 -- A firing gives the history of Definition 5. (T-03 changes this claim alone.)
-abbrev pub KeysAsPublished : List ℕ → Record → Type 0
-KeysAsPublished s r = (t : Tally) (c : List ℕ) → commandOf s r t c .outcome .answer ≡ Fired
-    → (u : Transition) (k : ℕ) → Iff (historyIn s (commandOf s r t c .outcome .session) u k) (firedKeys (petriNet (netOf s)) (historyIn s r) (transitionNamed c) u k)
+abbrev pub RecordKeysAsPublished : List ℕ → Record → Type 0
+RecordKeysAsPublished s r = (t : Tally) (c : List ℕ) → commandOf s r t c .outcome .answer ≡ Fired
+    → (u : Transition) (k : ℕ) → Iff (historyIn s (recordAfter s r t c) u k) (firedKeys (petriNet (netOf s)) (historyIn s r) (transitionNamed c) u k)
 
--- ---- All of it, of every accepted sheet: its net is one of Definition 2 and well-formed (Definition 3); the history of a fresh
--- record is empty; and, for a well-formed net, every record that a session can reach from a fresh one, and every sound
--- record that is handed in (whose ≺ is then taken to be document 01's dependence). That the net is well-formed is a claim of
--- its own, so that T-07, whose sheets need not keep Definition 3(2), changes that claim alone.
+-- ---- All of it, of every accepted sheet: its net is one of Definition 2 and well-formed (Definition 3), with the chapter's cases
+-- at each place; a fresh record holds the chapter's initial state; and, for a well-formed net, every record that a session
+-- can reach from a fresh one, and every record that is handed in and passes refusal 10's test. The past of such a record is
+-- not known, and its ≺ is what Definition 10 gives on the forward run of its live firings, each with its own key. That the
+-- net is well-formed is a claim of its own, so that T-07, whose sheets need not keep Definition 3(2), changes that claim
+-- alone.
 
 pub record FollowsPublished (s : List ℕ) : Type 0 where
   pub definition2 : Definition2 (petriNet (netOf s))
   pub wellFormed : WellFormed (petriNet (netOf s))
-  pub initial : (t : Tally) (u : Transition) (k : ℕ) → Iff (historyIn s (sessionAfter s [] t .session) u k) (noKeys u k)
-  pub sessions : WellFormed (petriNet (netOf s)) → (cs : List (List ℕ)) (t : Tally) → AsPublished s (sessionAfter s cs t .session) (orderIn s cs)
-  pub sound : WellFormed (petriNet (netOf s)) → (r : Record) → Sound s r → AsPublished s r (laterWithCommon (heldIn s r))
-  pub keys : (cs : List (List ℕ)) (t : Tally) → KeysAsPublished s (sessionAfter s cs t .session)
-  pub soundKeys : (r : Record) → Sound s r → KeysAsPublished s r
+  pub byCases : ByCases (netOf s)
+  pub initial : Initial (netOf s) (marksIn s (freshOf s)) (historyIn s (freshOf s))
+  pub sessions : WellFormed (petriNet (netOf s)) → (cs : List (List ℕ)) (t : Tally) → RecordAsPublished s (sessionAfter s cs t .session) (orderIn s cs)
+  pub sound : WellFormed (petriNet (netOf s)) → (r : Record) → soundFor s r ≡ true → RecordAsPublished s r (orderOfLines (netOf s) (heldIn s r .lines))
+  pub keys : (cs : List (List ℕ)) (t : Tally) → RecordKeysAsPublished s (sessionAfter s cs t .session)
+  pub soundKeys : (r : Record) → soundFor s r ≡ true → RecordKeysAsPublished s r
 
 abbrev pub Demand2Published : Type 0
 Demand2Published = (s : List ℕ) → clear (sheetChecks s) ≡ true → FollowsPublished s

@@ -1,12 +1,12 @@
--- All that specs/Claims says, of every net that meets the sheet's rules; and that sheet B's net is one.
+-- All that proofs/Claimed says, of every net that meets the sheet's rules; and that sheet B's net is one.
 -- Assumes nothing.
 use mathlib.Core.Path.{_≡_}
 use mathlib.Core.Bool.{true}
 use Rattle.net.specs.Net.{Net}
 use Rattle.net.specs.Rules.{netRule}
 use Rattle.net.specs.Journal.{play, begin}
-use Rattle.net.specs.Claims.{Claimed}
 use Rattle.net.specs.Cases.{netB}
+use Rattle.net.proofs.Claimed.{Claimed}
 use Rattle.net.proofs.Demand3.{demand3}
 use Rattle.net.proofs.History.{stays-sound, journal-sound}
 use Rattle.net.proofs.Totals.{totals}

@@ -19,8 +19,9 @@ use Rattle.net.specs.Marking.{Good}
 use Rattle.net.specs.Firing.{inSet, undo, Fires}
 use Rattle.net.specs.Checks.{clear, first}
 use Rattle.net.specs.Journal.{LiveLine, Journal, Reply, fired, transition, key, highestLive, lastGiven, fireChecks, fireReply, refuse, begin, act, play, answers}
-use Rattle.net.specs.Claims.{fireCommand, fireCommands, numbered, allFired, Forward, LinesRunForward}
+use Rattle.net.specs.Claims.{fireCommand, fireCommands, numbered, allFired}
 use Rattle.net.specs.declared.Transition.{Transition}
+use Rattle.net.proofs.Claimed.{Forward, LinesRunForward}
 use Rattle.net.proofs.Moves.{view}
 use Rattle.net.proofs.Laws.{laws}
 use Rattle.net.proofs.Rules.{fits, start-good}

@@ -12,7 +12,7 @@ use borrow.Author.Tests.{eqb-true, eq-eqb, ltb-true, lt-ltb, leb-true, le-leb, l
 use Rattle.causal.specs.Lists.{Mem}
 use Rattle.causal.specs.Runs.{Run}
 use Rattle.net.specs.Limits.{maxLive, maxKey}
-use Rattle.net.specs.Tests.{all, sameList}
+use Rattle.net.specs.Tests.{sameList}
 use Rattle.net.specs.Sorted.{ascends}
 use Rattle.net.specs.Net.{Marking, Net, sameBond, arcsOf}
 use Rattle.net.specs.Rules.{netRule}
@@ -20,7 +20,7 @@ use Rattle.net.specs.Firing.{moved, fire, Fires}
 use Rattle.net.specs.Checks.{clear}
 use Rattle.net.specs.Journal.{LiveLine, Journal, highestLive, enableChecks, act, play, begin}
 use Rattle.net.specs.History.{sameMarking, accepts, replays, keysInOrder, linesInForm, sound}
-use Rattle.net.specs.Claims.{StaysSound, JournalSound}
+use Rattle.net.proofs.Claimed.{StaysSound, JournalSound}
 use Rattle.net.proofs.Tests.{and-l, and-r, and-i, all-e, all-i, beq-e, beq-i, same-e, same-i}
 use Rattle.net.proofs.Bonds.{bond-eq, eq-bond}
 use Rattle.net.proofs.Keys.{Up, mem-highest}

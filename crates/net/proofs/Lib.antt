@@ -1,4 +1,4 @@
--- What holds of document 01's definitions. Laws first, then the claims of specs/Claims, each with its proof.
+-- What holds of document 01's definitions. Laws first; then the claims on the journal (Claimed), each with its proof.
 pub mod Tests
 pub mod Tables
 pub mod Sorted
@@ -12,6 +12,7 @@ pub mod Rules
 pub mod Checks
 pub mod Keys
 pub mod Journal
+pub mod Claimed
 pub mod Demand3
 pub mod History
 pub mod Totals

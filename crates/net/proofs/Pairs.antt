@@ -16,8 +16,8 @@ use Rattle.net.specs.Tests.{table}
 use Rattle.net.specs.Sorted.{Ascending}
 use Rattle.net.specs.Net.{Marking, Net, bond, sameBond, lessBond}
 use Rattle.net.specs.Marking.{Good}
-use Rattle.net.specs.Claims.{FewBonds}
 use Rattle.net.specs.declared.Bond.{Bond}
+use Rattle.net.proofs.Claimed.{FewBonds}
 use Rattle.net.proofs.Tables.{length-table}
 use Rattle.net.proofs.Bonds.{bond-order, mem-has}
 

@@ -1,5 +1,5 @@
 -- Sound histories (01, commands, record, tally: when a record is sound), as a test on a journal.
--- Definitions only. The form of a record's fields is the crate session's.
+-- Definitions only. The form of a record's arrays (unused entries hold 0) is in marking, firings and sound.
 use mathlib.Core.Bool.{Bool, _&&_, Bool·beq}
 use mathlib.Core.List.{List, [], _∷_}
 use lib.Dec.{eqb, ltb, leb}

@@ -1,5 +1,5 @@
 -- What the sheet's rules ask of the net that it describes (01, the sheet, and the refusals 5 to 9), each rule a test.
--- Definitions only. The limits on counts, and the bytes, are the crate sheet's.
+-- Definitions only. The limits on counts are in Limits, and tested in sheet_head and sheet_arcs; format reads the bytes.
 use mathlib.Core.Bool.{Bool, _&&_}
 use mathlib.Core.List.{List}
 use Prim.Native.Nat.{ℕ}

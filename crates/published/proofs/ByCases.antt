@@ -1,14 +1,25 @@
--- Where a place is not both incoming and outgoing, Definitions 5 and 7 as they stand here are the chapter's three cases, for
--- every net and marking. Assumes nothing.
-use mathlib.Core.Logic.{inl, inr}
+-- Definitions 5 and 7 as they stand here are the chapter's cases; at a place that is both incoming and outgoing, one after the
+-- other. For every net and marking. Of a sheet's net it is decided which places are incoming and outgoing. Assumes nothing.
+use mathlib.Core.Path.{refl}
+use mathlib.Core.Logic.{_⊎_, inl, inr}
+use mathlib.Core.List.{List}
 use Prim.Native.Nat.{ℕ}
+use lib.Dec.{eqb}
+use borrow.Author.Tests.{eqb-true, eq-eqb}
+use Rattle.causal.proofs.Tests.{test, both}
+use Rattle.net.specs.Tests.{any}
+use Rattle.net.specs.Net.{Net, arcsOf}
+use Rattle.net.specs.declared.Bond.{Bond}
+use Rattle.net.specs.declared.Entry.{Entry}
 use Rattle.net.specs.declared.Transition.{Transition}
+use Rattle.net.proofs.Tests.{any-e, any-no}
 use Rattle.published.specs.Sets.{Item, base, minus, union}
 use Rattle.published.specs.Nets.{PetriNet, Incoming, Outgoing}
 use Rattle.published.specs.States.{Marks}
 use Rattle.published.specs.Forward.{leaves, comes, firedMarks}
 use Rattle.published.specs.Backtracking.{leavesBack, comesBack, reversedMarks}
-use Rattle.published.specs.Claims.{FiredByCases, ReversedByCases}
+use Rattle.published.specs.Sheets.{labelAt, petriNet, marksOf}
+use Rattle.published.specs.Claims.{FiredByCases, ReversedByCases, ByCases}
 
 module _ (N : PetriNet) (M : Marks) (t : Transition) (x : ℕ) (p : N .isPlace x) where
   none-taken : (Incoming N t x → ⊥) → (i : Item) → N .takes x t i → ⊥
@@ -30,11 +41,12 @@ module _ (N : PetriNet) (M : Marks) (t : Transition) (x : ℕ) (p : N .isPlace x
   nothing-leaves out i (inl h) = inl (h, λ (a, k, _). none-taken out (base a) k)
   nothing-leaves out i (inr h) = inr h
 
-  pub fired-by-cases : FiredByCases N M t x
+  fired-by-cases : FiredByCases N M t x
   fired-by-cases = record {
     incoming = λ out i. (only-leaves out i, λ h. inl h);
     outgoing = λ out i. (only-comes i, nothing-leaves out i);
     neither = λ out out′ i. ((λ h. only-leaves out′ i h .0), λ h. nothing-leaves out i (inl h));
+    both = λ _ _ i. ((λ h. h), λ h. h);
   }
 
   only-comes-back : (i : Item) → reversedMarks N M t x i → union (M x) (comesBack N M t x) i
@@ -49,9 +61,32 @@ module _ (N : PetriNet) (M : Marks) (t : Transition) (x : ℕ) (p : N .isPlace x
   only-leaves-back out i (inl h) = h
   only-leaves-back out i (inr (y, a, _, h, _, _)) = absurd (none-taken out (base a) h)
 
-  pub reversed-by-cases : ReversedByCases N M t x
+  reversed-by-cases : ReversedByCases N M t x
   reversed-by-cases = record {
     incoming = λ out i. (only-comes-back i, nothing-leaves-back out i);
     outgoing = λ out i. (only-leaves-back out i, λ h. inl h);
     neither = λ out out′ i. ((λ h. only-leaves-back out i h .0), λ h. nothing-leaves-back out′ i (inl h));
+    both = λ _ _ i. ((λ h. h), λ h. h);
   }
+
+-- ---- the net of a sheet
+
+-- whether a place has something on its arc
+labelled : (side : Entry → ℕ) (es : List Entry) (bs : List Bond) (x : ℕ) → ((i : Item) × labelAt side es bs x i) ⊎ ((i : Item) → labelAt side es bs x i → ⊥)
+labelled side es bs x = test (any (λ (e : Entry). eqb (side e) x) es)
+    (λ h. let (e, m, q) = any-e (λ (d : Entry). eqb (side d) x) es h in inl (base (e .base), (tt, e, m, refl, eqb-true (side e) x q)))
+    (λ h. inr (λ i (_, e, m, _, q). both (eqb (side e) x) (eq-eqb (side e) x q) (any-no (λ (d : Entry). eqb (side d) x) es h e m)))
+
+module _ (net : Net) (t : Transition) (x : ℕ) (p : petriNet net .isPlace x) where
+  is-incoming : Incoming (petriNet net) t x ⊎ (Incoming (petriNet net) t x → ⊥)
+  is-incoming = elim (labelled (λ (e : Entry). e .from) (arcsOf net t .entries) (arcsOf net t .inBonds) x) [ inl (i, h) ↦ inl (p, i, h) | inr none ↦ inr (λ (_, i, h). none i h) ]
+
+  is-outgoing : Outgoing (petriNet net) t x ⊎ (Outgoing (petriNet net) t x → ⊥)
+  is-outgoing = elim (labelled (λ (e : Entry). e .to) (arcsOf net t .entries) (arcsOf net t .outBonds) x) [ inl (i, h) ↦ inl (p, i, h) | inr none ↦ inr (λ (_, i, h). none i h) ]
+
+pub by-cases : (net : Net) → ByCases net
+by-cases net = record {
+  decided = λ t x p. (is-incoming net t x p, is-outgoing net t x p);
+  fired = λ s t x p. fired-by-cases (petriNet net) (marksOf net s) t x p;
+  reversed = λ s t x p. reversed-by-cases (petriNet net) (marksOf net s) t x p;
+}

@@ -12,24 +12,25 @@ use Rattle.causal.proofs.Tests.{both}
 use Rattle.net.specs.Net.{Marking, Net, hasBond, place, arcsOf}
 use Rattle.net.specs.Rules.{netRule}
 use Rattle.net.specs.Connection.{here}
-use Rattle.net.specs.Firing.{inSet, fire, undo}
+use Rattle.net.specs.Firing.{inSet, moves, fire, undo}
 use Rattle.net.specs.Checks.{clear}
 use Rattle.net.specs.Journal.{LiveLine, Journal, highestLive, isLive, lineOf, builtOn, undoChecks, undoReply}
 use Rattle.net.specs.declared.Entry.{Entry}
 use Rattle.net.specs.declared.Key.{Key}
 use Rattle.net.specs.declared.Transition.{Transition}
 use Rattle.net.proofs.Tests.{fails, or-l}
-use Rattle.net.proofs.Moves.{Fit, view, seen-place, seen-first, entry-moves}
+use Rattle.net.proofs.Moves.{Fit, view, seen-place, seen-first, entry-moves, mem-moved}
 use Rattle.net.proofs.Fire.{has-fire}
 use Rattle.net.proofs.Rules.{fits}
 use Rattle.net.proofs.Keys.{mem-highest, up-after, live-split, independent-later, builtOn-after}
 use Rattle.net.proofs.Journal.{Held}
 use Rattle.published.specs.Sets.{Iff, Item, base, bond, Max}
-use Rattle.published.specs.Backtracking.{BacktrackEnabled, reversedMarks}
+use Rattle.published.specs.States.{Somewhere}
+use Rattle.published.specs.Backtracking.{BacktrackEnabled, leavesBack, reversedMarks}
 use Rattle.published.specs.Causal.{Order, CausalEnabled}
 use Rattle.published.specs.Sheets.{anchor, Allowed, Present, petriNet, marksOf, historyOf}
 use Rattle.published.proofs.Firing.{goes-to}
-use Rattle.published.proofs.Reversal.{reversed-to, reversed-from}
+use Rattle.published.proofs.Reversal.{moved-leave-back, leave-back-moved, reversed-to, reversed-from}
 use Rattle.published.proofs.Lines.{one-line, line-live, live-line, highest-is, builtOn-e, builtOn-i}
 use Rattle.published.proofs.Sessions.{good-now, line-listed, Untouched, untouched}
 use Rattle.published.proofs.Keys.{one-max, undo-live, undo-free, undo-mem, undo-key, undo-latest}
@@ -56,6 +57,18 @@ module _ (net : Net) (ok : netRule net ≡ true) (j : Journal) (H : Held net j) 
         subst (λ (m : List Bool). Iff (marksOf net (undo (net .bases) (arcsOf net t) m (j .marking)) x i) (reversedMarks (petriNet net) (marksOf net (j .marking)) t x i)) (sym (f .moves-m)) (
           reversed-to net ok (U .before) (U .good) t (f .listed) (f .placed) (f .present) (f .absent) (f .together) (j .marking) (good-now net ok j H) (U .like) x i,
           reversed-from net ok (U .before) (U .good) t (f .listed) (f .placed) (f .present) (f .absent) (f .together) (j .marking) (good-now net ok j H) (U .like) x i,
+        )
+
+    -- the bases that leave by Definition 7
+    pub moved-back : (b : ℕ) → Iff (inSet (lineOf k (j .lines) .moved) b ≡ true) (Somewhere (leavesBack (petriNet net) (marksOf net (j .marking)) (lineOf k (j .lines) .transition)) b)
+    moved-back b =
+        let U = left-alone in
+        let f = U .fires in
+        let t : Transition = lineOf k (j .lines) .transition in
+        let its : inSet (lineOf k (j .lines) .moved) b ≡ moves (U .before .bonds) (arcsOf net t .entries) b =
+        ap (λ (m : List Bool). inSet m b) (f .moves-m) ∙ mem-moved net (U .before) (U .good) (arcsOf net t) (fits net ok t (f .listed)) b in (
+          (λ h. moved-leave-back net ok (U .before) (U .good) t (f .listed) (f .placed) (f .present) (f .absent) (f .together) (j .marking) (good-now net ok j H) (U .like) b (sym its ∙ h)),
+          (λ h. its ∙ leave-back-moved net ok (U .before) (U .good) t (f .listed) (f .placed) (f .present) (f .absent) (f .together) (j .marking) (good-now net ok j H) (U .like) b h),
         )
 
   -- ---- all that a firing put is where it put it, while its bases are left alone

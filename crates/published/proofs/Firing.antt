@@ -1,5 +1,5 @@
--- A firing that none of 12 to 16 refuses gives exactly the marking of Definition 5, bases and bonds, place by place.
--- Assumes that the net meets the sheet's rules, and a good marking.
+-- A firing that none of 12 to 16 refuses gives exactly the marking of Definition 5, bases and bonds, place by place, and moves
+-- the bases that leave by it. Assumes that the net meets the sheet's rules, and a good marking.
 use mathlib.Core.Path.{_≡_, refl, sym, _∙_}
 use mathlib.Core.Logic.{_⊎_, inl, inr}
 use mathlib.Core.Bool.{true, false}
@@ -12,7 +12,7 @@ use Rattle.net.specs.Net.{Arcs, Marking, Net, hasBond, place, arcsOf}
 use Rattle.net.specs.Rules.{netRule}
 use Rattle.net.specs.Connection.{Leads, here, connected}
 use Rattle.net.specs.Marking.{Good}
-use Rattle.net.specs.Firing.{moves, misplaced, tornApart, fire}
+use Rattle.net.specs.Firing.{inSet, moves, moved, misplaced, tornApart, fire}
 use Rattle.net.specs.Checks.{clear}
 use Rattle.net.specs.Journal.{enableChecks}
 use Rattle.net.specs.declared.Bond.{Bond}
@@ -20,14 +20,15 @@ use Rattle.net.specs.declared.Entry.{Entry}
 use Rattle.net.specs.declared.Transition.{Transition}
 use Rattle.net.proofs.Tests.{or-e, or-l, or-r, any-e, any-i}
 use Rattle.net.proofs.Connection.{leads-trans, leads-sym, connected-leads, leads-connected}
-use Rattle.net.proofs.Moves.{sent-none, sent-is, Fit}
+use Rattle.net.proofs.Moves.{sent-none, sent-is, Fit, mem-moved}
 use Rattle.net.proofs.Fire.{place-fire, has-fire, one-way}
 use Rattle.net.proofs.Rules.{fits}
 use Rattle.net.proofs.Journal.{enabled-fires}
 use Rattle.published.specs.Sets.{Iff, Item, base, bond}
-use Rattle.published.specs.Forward.{firedMarks}
+use Rattle.published.specs.States.{Somewhere}
+use Rattle.published.specs.Forward.{leaves, firedMarks}
 use Rattle.published.specs.Sheets.{anchor, Present, petriNet, marksOf}
-use Rattle.published.proofs.Components.{leads-place, con-leads, leads-con}
+use Rattle.published.proofs.Components.{leads-place, leads-below, con-leads, leads-con}
 use Rattle.published.proofs.Enabling.{at-home}
 
 -- a base to which an entry's base leads is moved, and a moved base is led to
@@ -110,7 +111,25 @@ module _ (net : Net) (ok : netRule net ≡ true) (s : Marking) (G : Good net s) 
       let (_, _, u, l) = con-leads net s G y a i c in
       (still-there i u, goes e m (anchor i) (rw b l) ∙ q)
 
+  -- ---- the bases that leave
+
+  moved-leave : (p : ℕ) → moves (s .bonds) (arcsOf net t .entries) p ≡ true → Somewhere (leaves (petriNet net) (marksOf net s) t) p
+  moved-leave p k =
+      let (e, m, l) = moves-led (arcsOf net t) (s .bonds) p k in
+      let F = fits net ok t h in
+      (e .from, (e .base, (tt, e, m, refl, refl), leads-con net s G (e .from) (e .base) (base p) (F .bases e m) (at-home (arcsOf net t) s r13 e m) (leads-below net s G l (F .bases e m)) l))
+
+  leave-moved : (p : ℕ) → Somewhere (leaves (petriNet net) (marksOf net s) t) p → moves (s .bonds) (arcsOf net t .entries) p ≡ true
+  leave-moved p (x, (b, (_, e, m, r, _), c)) = led-moves (arcsOf net t) (s .bonds) e m p (rw r (con-leads net s G x b (base p) c .3))
+
 module _ (net : Net) (ok : netRule net ≡ true) (s : Marking) (G : Good net s) (t : Transition) (e : clear (enableChecks net s t) ≡ true) where
+  -- the flags of the firing's line
+  pub moved-out : (p : ℕ) → Iff (inSet (moved (net .bases) (arcsOf net t) s) p ≡ true) (Somewhere (leaves (petriNet net) (marksOf net s) t) p)
+  moved-out p =
+      let f = enabled-fires net s t e in
+      let its = mem-moved net s G (arcsOf net t) (fits net ok t (f .listed)) p in
+      ((λ k. moved-leave net ok s G t (f .listed) (f .placed) (f .together) p (sym its ∙ k)), λ k. its ∙ leave-moved net ok s G t (f .listed) (f .placed) (f .together) p k)
+
   pub fired-marks : (x : ℕ) (i : Item) → Iff (marksOf net (fire (net .bases) (arcsOf net t) s) x i) (firedMarks (petriNet net) (marksOf net s) t x i)
   fired-marks x i =
       let f = enabled-fires net s t e in

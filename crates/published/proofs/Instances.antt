@@ -2,7 +2,7 @@
 -- are their opposites. Assumes nothing.
 use mathlib.Core.Path.{_≡_, refl, sym, _∙_, ap}
 use mathlib.Core.Logic.{inl, inr}
-use mathlib.Core.Bool.{false}
+use mathlib.Core.Bool.{true, false}
 use mathlib.Core.List.{List, [], _∷_}
 use Prim.Native.Nat.{ℕ, _≤_}
 use native.Mathlib.Omega.{arith}
@@ -14,12 +14,12 @@ use Rattle.net.specs.Cases.{netB, fireOf}
 use Rattle.net.specs.declared.Transition.{Transition}
 use Rattle.published.specs.Sets.{base, minus, Max}
 use Rattle.published.specs.Nets.{PetriNet}
-use Rattle.published.specs.States.{Marks}
+use Rattle.published.specs.States.{Marks, Somewhere}
 use Rattle.published.specs.Forward.{Enabled, leaves, firedMarks}
-use Rattle.published.specs.Backtracking.{BacktrackEnabled, reversedMarks}
+use Rattle.published.specs.Backtracking.{BacktrackEnabled, leavesBack, reversedMarks}
 use Rattle.published.specs.Causal.{noOrder, CausalEnabled}
-use Rattle.published.specs.Sheets.{petriNet, marksOf, historyOf, orderAfter}
-use Rattle.published.specs.Claims.{AsPublished}
+use Rattle.published.specs.Sheets.{petriNet, marksOf, historyOf, orderAfter, orderOfLines}
+use Rattle.published.specs.Claims.{JournalAsPublished}
 use Rattle.published.proofs.Claims.{published-B}
 
 abbrev N : PetriNet
@@ -29,7 +29,7 @@ N = petriNet netB
 abbrev after : List (List ℕ) → Journal
 after cs = play netB cs (begin netB)
 
-shown : (cs : List (List ℕ)) → AsPublished netB (play netB cs (begin netB)) (orderAfter netB cs (begin netB) noOrder)
+shown : (cs : List (List ℕ)) → JournalAsPublished netB (play netB cs (begin netB)) (orderAfter netB cs (begin netB) noOrder)
 shown cs = published-B .states (published-B .wellFormed) cs
 
 abbrev start : Marks
@@ -42,6 +42,13 @@ enabled-M1 = shown [] .enabled (transition 0) .0 refl .1
 
 pub carried-M1 : firedMarks N start (transition 0) 1 (base 3)
 carried-M1 = shown [] .fires (transition 0) refl 1 (base 3) .0 (omega arith, refl)
+
+-- base 3 leaves with it, though no entry names it; base 1 does not
+pub leaves-M1 : Somewhere (leaves N start (transition 0)) 3
+leaves-M1 = shown [] .moves (transition 0) refl 3 .0 refl
+
+pub stays-M1 : Somewhere (leaves N start (transition 0)) 1 → ⊥
+stays-M1 h = both false (shown [] .moves (transition 0) refl 1 .1 h) refl
 
 -- ---- M7 to M10: transitions 1, 5, 4 and 3 are not enabled
 
@@ -84,8 +91,34 @@ causal-M5 = shown firings .causal (key 2) (transition 1) .0 (refl, refl) .0
 pub returned-M5 : reversedMarks N (marksOf netB (after firings .marking)) (transition 1) 1 (base 2)
 returned-M5 = shown firings .undoes (key 2) refl 1 (base 2) .0 (omega arith, refl)
 
+-- base 0, which no entry of transition 1 names, goes back with it
+pub leaves-M5 : Somewhere (leavesBack N (marksOf netB (after firings .marking)) (transition 1)) 0
+leaves-M5 = shown firings .movesBack (key 2) refl 0 .0 refl
+
 pub last-M4 : BacktrackEnabled N (historyOf (after firings)) (transition 2)
 last-M4 = shown firings .last (transition 2) .0 (refl, refl)
+
+-- ---- The same lines handed in with other keys, 5, 9 and 200: a sound history, in which transition 1's firing still depends on
+-- transition 0's by Definition 10, and transition 1 is c-enabled
+
+abbrev handed : Journal
+handed = record {
+  marking = after firings .marking;
+  lines =
+      record { transition = transition 0; key = key 5; moved = true ∷ false ∷ true ∷ true ∷ [] }
+      ∷ record { transition = transition 1; key = key 9; moved = true ∷ false ∷ true ∷ true ∷ [] }
+      ∷ record { transition = transition 2; key = key 200; moved = false ∷ true ∷ false ∷ false ∷ [] }
+      ∷ [];
+}
+
+shown-handed : JournalAsPublished netB handed (orderOfLines netB (handed .lines))
+shown-handed = published-B .histories (published-B .wellFormed) handed refl
+
+pub depends-handed : orderOfLines netB (handed .lines) (transition 0) 5 (transition 1) 9
+depends-handed = shown-handed .order (transition 0) 5 (transition 1) 9 .1 (_, _, inl refl, inr (inl refl), refl, refl, refl, refl, omega arith, (0, refl, refl))
+
+pub causal-handed : CausalEnabled N (marksOf netB (handed .marking)) (historyOf handed) (orderOfLines netB (handed .lines)) (transition 1)
+causal-handed = shown-handed .causal (key 9) (transition 1) .0 (refl, refl) .0
 
 -- ---- The reading of Definition 5: transition 2 takes base 1 from place 0 and puts it there. By the first of the chapter's
 -- cases alone, place 0 would lose it; taken out first and then put in, it is there.

@@ -10,6 +10,7 @@ pub mod Sessions
 pub mod Keys
 pub mod FiredKeys
 pub mod Order
+pub mod LineOrder
 pub mod Causal
 pub mod ByCases
 pub mod Claims

@@ -14,9 +14,9 @@ use Rattle.net.specs.Tests.{pick}
 use Rattle.net.specs.Net.{Net, arcsOf}
 use Rattle.net.specs.Rules.{netRule}
 use Rattle.net.specs.Connection.{Leads}
-use Rattle.net.specs.Firing.{inSet, moves}
+use Rattle.net.specs.Firing.{inSet, moves, moved}
 use Rattle.net.specs.Checks.{clear}
-use Rattle.net.specs.Journal.{LiveLine, Journal, Reply, lineOf, builtOn, kindOf, enableChecks, spaceChecks, fireChecks, undoChecks, checks, transitionNamed, keyNamed, newLine, fireReply, undoReply, begin, act, play}
+use Rattle.net.specs.Journal.{LiveLine, Journal, Reply, highestLive, lineOf, builtOn, kindOf, enableChecks, spaceChecks, fireChecks, undoChecks, checks, transitionNamed, keyNamed, newLine, fireReply, undoReply, begin, act, play}
 use Rattle.net.specs.declared.Key.{Key}
 use Rattle.net.specs.declared.Transition.{Transition}
 use Rattle.net.proofs.Tests.{and-l, pick-case}
@@ -28,7 +28,7 @@ use Rattle.net.proofs.Keys.{mem-highest, mem-snoc}
 use Rattle.net.proofs.Journal.{Held, enabled-fires, checks-kind, act-held, begin-held}
 use Rattle.published.specs.Sets.{Iff, base, Max}
 use Rattle.published.specs.Causal.{Uses, Order, noOrder, firedOrder, reversedOrder}
-use Rattle.published.specs.Sheets.{petriNet, marksOf, historyOf, orderStep, orderAfter, laterWithCommon}
+use Rattle.published.specs.Sheets.{petriNet, marksOf, historyOf, orderStep, orderAfter, withLine, laterWithCommon}
 use Rattle.published.proofs.Components.{con-leads, leads-con}
 use Rattle.published.proofs.Enabling.{at-home}
 use Rattle.published.proofs.Firing.{led-moves, moves-led}
@@ -43,15 +43,16 @@ Agrees j R = (u : Transition) (i : ℕ) (t : Transition) (k : ℕ) → Iff (R u 
 module _ (net : Net) (ok : netRule net ≡ true) (j : Journal) (H : Held net j) where
   -- ---- a firing uses something of a live firing exactly where the two have a common moved base
 
-  module _ (t : Transition) (e : clear (enableChecks net (j .marking) t) ≡ true) (l : LiveLine) (m : Mem l (j .lines)) where
-    new-moves : (p : ℕ) → inSet (newLine net j t .moved) p ≡ moves (j .marking .bonds) (arcsOf net t .entries) p
+  module _ (t : Transition) (e : clear (enableChecks net (j .marking) t) ≡ true) where
+    pub new-moves : (p : ℕ) → inSet (newLine net j t .moved) p ≡ moves (j .marking .bonds) (arcsOf net t .entries) p
     new-moves p = mem-moved net (j .marking) (good-now net ok j H) (arcsOf net t) (fits net ok t (enabled-fires net (j .marking) t e .listed)) p
 
+  module _ (t : Transition) (e : clear (enableChecks net (j .marking) t) ≡ true) (l : LiveLine) (m : Mem l (j .lines)) where
     pub common-uses : Dependent inSet (l .moved) (newLine net j t .moved) → Uses (petriNet net) (marksOf net (j .marking)) t (l .transition)
     common-uses (p, u, v) =
         let F = fits net ok t (enabled-fires net (j .marking) t e .listed) in
         let F′ = fits net ok (l .transition) (line-listed net ok j H l m) in
-        let (d, n, g) = moves-led (arcsOf net t) (j .marking .bonds) p (sym (new-moves p) ∙ v) in
+        let (d, n, g) = moves-led (arcsOf net t) (j .marking .bonds) p (sym (new-moves t e p) ∙ v) in
         let (f, o, g′) = still-carried net ok j H l m p u in (
           d .base,
           d .from,
@@ -66,25 +67,27 @@ module _ (net : Net) (ok : netRule net ≡ true) (j : Journal) (H : Held net j) 
     uses-common (a, x, i, (_, d, n, b, _), c, (y, _, (_, f, o, q, _))) =
         let (_, _, _, g) = con-leads net (j .marking) (good-now net ok j H) x a i c in
         let g₁ : Leads (j .marking .bonds) (d .base) (f .base) = rw (b, q) g in
-        (f .base, entry-in-line net ok j H l m f o, new-moves (f .base) ∙ led-moves (arcsOf net t) (j .marking .bonds) d n (f .base) g₁)
+        (f .base, entry-in-line net ok j H l m f o, new-moves t e (f .base) ∙ led-moves (arcsOf net t) (j .marking .bonds) d n (f .base) g₁)
 
   -- ---- Definition 10
 
-  module _ (R : Order) (A : Agrees j R) (t : Transition) (e : clear (enableChecks net (j .marking) t) ≡ true) where
-    abbrev new : LiveLine
-    new = newLine net j t
+  -- of a line that is fired with any key above those of the others
+  module _ (R : Order) (A : Agrees j R) (new : LiveLine) (e : clear (enableChecks net (j .marking) (new .transition)) ≡ true)
+      (its : new .moved ≡ moved (net .bases) (arcsOf net (new .transition)) (j .marking)) (high : highestLive (j .lines) .0 < new .key .0) where
+    abbrev t : Transition
+    t = new .transition
 
     abbrev j′ : Journal
-    j′ = fireReply net j t .journal
+    j′ = withLine net j new
 
     abbrev R′ : Order
-    R′ = firedOrder (petriNet net) (marksOf net (j .marking)) (historyOf (fireReply net j t .journal)) R t
+    R′ = firedOrder (petriNet net) (marksOf net (j .marking)) (historyOf (withLine net j new)) R (new .transition)
 
     -- the new key is the highest
     newest : Max (historyOf j′ t) (new .key .0)
     newest = ((new, mem-last (j .lines) new, refl, refl), λ i (l, m, _, q). below i l q (mem-snoc (j .lines) new l m))
       where
-        below : (i : ℕ) (l : LiveLine) → l .key .0 ≡ i → Mem l (j .lines) ⊎ (l ≡ newLine net j t) → i ≤ newLine net j t .key .0
+        below : (i : ℕ) (l : LiveLine) → l .key .0 ≡ i → Mem l (j .lines) ⊎ (l ≡ new) → i ≤ new .key .0
         below i l q (inl m) = let a = mem-highest (j .lines) l m in omega arith
         below i l q (inr d) = let a = key-of d in omega arith
 
@@ -95,7 +98,7 @@ module _ (net : Net) (ok : netRule net ≡ true) (j : Journal) (H : Held net j) 
     fired-order-to u i v k (inr (same, (o, (l, m, p, q), x, lt, uses))) =
         go (one-max (historyOf j′ t) k (new .key .0) x newest) (mem-snoc (j .lines) new l m)
       where
-        go : k ≡ newLine net j t .key .0 → Mem l (j .lines) ⊎ (l ≡ newLine net j t) → laterWithCommon (fireReply net j t .journal) u i v k
+        go : k ≡ new .key .0 → Mem l (j .lines) ⊎ (l ≡ new) → laterWithCommon (withLine net j new) u i v k
         go top (inl n) = (
           l,
           new,
@@ -106,28 +109,33 @@ module _ (net : Net) (ok : netRule net ≡ true) (j : Journal) (H : Held net j) 
           sym same,
           sym top,
           lt,
-          uses-common t e l n (subst (λ (w : Transition). Uses (petriNet net) (marksOf net (j .marking)) t w) (sym p) uses),
+          subst (λ (m : List Bool). Dependent inSet (l .moved) m) (sym its)
+              (uses-common (new .transition) e l n (subst (λ (w : Transition). Uses (petriNet net) (marksOf net (j .marking)) (new .transition) w) (sym p) uses)),
         )
         go top (inr d) = let a = key-of d in absurd (let z : ⊥ = omega arith in z)
 
     fired-order-from : (u : Transition) (i : ℕ) (v : Transition) (k : ℕ) → laterWithCommon j′ u i v k → R′ u i v k
     fired-order-from u i v k (l, h, a, b, p, q, p′, q′, lt, c) = go (mem-snoc (j .lines) new l a) (mem-snoc (j .lines) new h b)
       where
-        go : Mem l (j .lines) ⊎ (l ≡ newLine net j t) → Mem h (j .lines) ⊎ (h ≡ newLine net j t) → firedOrder (petriNet net) (marksOf net (j .marking)) (historyOf (fireReply net j t .journal)) R t u i v k
+        go : Mem l (j .lines) ⊎ (l ≡ new) → Mem h (j .lines) ⊎ (h ≡ new) → firedOrder (petriNet net) (marksOf net (j .marking)) (historyOf (withLine net j new)) R (new .transition) u i v k
         go (inl m) (inl n) = inl (A u i v k .1 (l, h, m, n, p, q, p′, q′, lt, c))
         go (inr d) (inl n) = let x = mem-highest (j .lines) h n in let y = key-of d in absurd (let z : ⊥ = omega arith in z)
         go (inr d) (inr f) = let x = key-of d in let y = key-of f in absurd (let z : ⊥ = omega arith in z)
         go (inl m) (inr f) =
             let top : new .key .0 ≡ k = sym (key-of f) ∙ q′ in
             let (o, low) = subst (Max (historyOf j′ t)) top newest in
-            let c′ : Dependent inSet (l .moved) (new .moved) = subst (λ (x : LiveLine). Dependent inSet (l .moved) (x .moved)) f c in
+            let c′ : Dependent inSet (l .moved) (newLine net j (new .transition) .moved) = subst (λ (m : List Bool). Dependent inSet (l .moved) m) (ap (λ (x : LiveLine). x .moved) f ∙ its) c in
             inr (
               sym p′ ∙ ap (λ (x : LiveLine). x .transition) f,
-              (o, (l, a, p, q), (o, low), lt, subst (λ (w : Transition). Uses (petriNet net) (marksOf net (j .marking)) t w) p (common-uses t e l m c′)),
+              (o, (l, a, p, q), (o, low), lt, subst (λ (w : Transition). Uses (petriNet net) (marksOf net (j .marking)) (new .transition) w) p (common-uses (new .transition) e l m c′)),
             )
 
-    pub fired-order : Agrees (fireReply net j t .journal) (firedOrder (petriNet net) (marksOf net (j .marking)) (historyOf (fireReply net j t .journal)) R t)
-    fired-order u i v k = (fired-order-to u i v k, fired-order-from u i v k)
+    pub line-order : Agrees (withLine net j new) (firedOrder (petriNet net) (marksOf net (j .marking)) (historyOf (withLine net j new)) R (new .transition))
+    line-order u i v k = (fired-order-to u i v k, fired-order-from u i v k)
+
+  pub fired-order : (R : Order) → Agrees j R → (t : Transition) → clear (enableChecks net (j .marking) t) ≡ true
+      → Agrees (fireReply net j t .journal) (firedOrder (petriNet net) (marksOf net (j .marking)) (historyOf (fireReply net j t .journal)) R t)
+  fired-order R A t e = line-order R A (newLine net j t) e refl (omega arith)
 
   -- ---- Definition 12
 

@@ -1,5 +1,5 @@
--- Taking back gives exactly the marking of Definition 7, bases and bonds, place by place, wherever the moved bases look as
--- the firing left them. Assumes that the net meets the sheet's rules, and good markings.
+-- Taking back gives exactly the marking of Definition 7, bases and bonds, place by place, and the bases that leave by it are
+-- the moved ones, wherever these look as the firing left them. Assumes that the net meets the sheet's rules, and good markings.
 use mathlib.Core.Path.{_≡_, refl, sym, _∙_}
 use mathlib.Core.Logic.{_⊎_, inl, inr}
 use mathlib.Core.Bool.{Bool, true, false, not, _&&_}
@@ -29,9 +29,10 @@ use Rattle.net.proofs.Rules.{fits}
 use Rattle.published.specs.Sets.{Item, base, bond, minus}
 use Rattle.published.specs.Nets.{Pre, Post}
 use Rattle.published.specs.Forward.{eff}
-use Rattle.published.specs.Backtracking.{reversedMarks}
+use Rattle.published.specs.States.{Somewhere}
+use Rattle.published.specs.Backtracking.{leavesBack, reversedMarks}
 use Rattle.published.specs.Sheets.{anchor, Present, petriNet, marksOf}
-use Rattle.published.proofs.Components.{con-more, leads-place, con-leads, leads-con}
+use Rattle.published.proofs.Components.{con-more, leads-place, leads-below, con-leads, leads-con}
 use Rattle.published.proofs.Enabling.{at-home, entry-outgoing}
 use Rattle.published.proofs.Firing.{led-moves, moves-led, goes-to}
 
@@ -173,6 +174,21 @@ module _ (net : Net) (ok : netRule net ≡ true) (s : Marking) (G : Good net s) 
   -- an entry's base is at the out-place
   at-out : (e : Entry) → Mem e (a .entries) → place y (e .base) ≡ e .to
   at-out e m = sym (seen-place z y (e .base) (like (e .base) (entry-moves net s G a F e m))) ∙ goes-to net s G a F r16 e m (e .base) (here refl)
+
+  -- ---- the bases that leave by Definition 7 are the moved ones
+
+  pub moved-leave-back : (p : ℕ) → in-m p ≡ true → Somewhere (leavesBack (petriNet net) (marksOf net y) t) p
+  moved-leave-back p c =
+      let (e, m, l) = moves-led a (s .bonds) p c in
+      let l′ : Leads (y .bonds) (e .base) p = still-leads l (entry-moves net s G a F e m) in
+      (e .to, (e .base, (tt, e, m, refl, refl), leads-con net y H (e .to) (e .base) (base p) (F .bases e m) (at-out e m) (leads-below net y H l′ (F .bases e m)) l′))
+
+  pub leave-back-moved : (p : ℕ) → Somewhere (leavesBack (petriNet net) (marksOf net y) t) p → in-m p ≡ true
+  leave-back-moved p (x, (b, (_, e, m, r, _), c)) =
+      let l : Leads (y .bonds) (e .base) p = rw r (con-leads net y H x b (base p) c .3) in
+      led-in-m l (entry-moves net s G a F e m)
+
+  -- ---- the marking
 
   -- what is there, by what is seen at the item's base
   same-present : (v w : Marking) (i : Item) → view v (anchor i) ≡ view w (anchor i) → Present net v i → Present net w i

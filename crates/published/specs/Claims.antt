@@ -1,38 +1,75 @@
 -- What is claimed: that document 01's firing and taking back, on every journal that a session can reach, are chapter 3's.
 -- Statements only; proofs/ has a proof of each.
 use mathlib.Core.Path.{_≡_}
+use mathlib.Core.Logic.{_⊎_}
 use mathlib.Core.Bool.{true}
 use mathlib.Core.List.{List}
 use Prim.Native.Nat.{ℕ}
-use Rattle.net.specs.Net.{Net}
+use Rattle.net.specs.Net.{Marking, Net}
+use Rattle.net.specs.Firing.{inSet}
 use Rattle.net.specs.Checks.{clear}
-use Rattle.net.specs.Journal.{Journal, highestLive, lineOf, enableChecks, undoChecks, fireReply, undoReply, begin, play}
+use Rattle.net.specs.Journal.{Journal, highestLive, lineOf, enableChecks, undoChecks, newLine, fireReply, undoReply, begin, play}
+use Rattle.net.specs.History.{sound}
 use Rattle.net.specs.declared.Key.{Key}
 use Rattle.net.specs.declared.Transition.{Transition}
-use Rattle.published.specs.Sets.{Iff, Item, union, minus, Max}
+use Rattle.published.specs.Sets.{Iff, Item, Items, union, minus, Max}
 use Rattle.published.specs.Nets.{PetriNet, Definition2, Incoming, Outgoing, WellFormed}
-use Rattle.published.specs.States.{Marks, IsMarking, EachInOnePlace, noKeys}
+use Rattle.published.specs.States.{Marks, Somewhere, IsMarking, EachInOnePlace, Keys, noKeys}
 use Rattle.published.specs.Forward.{Enabled, leaves, comes, firedMarks, firedKeys}
 use Rattle.published.specs.Backtracking.{BacktrackEnabled, leavesBack, comesBack, reversedMarks, reversedKeys}
-use Rattle.published.specs.Causal.{Order, noOrder, CausalEnabled}
-use Rattle.published.specs.Sheets.{petriNet, marksOf, historyOf, orderAfter, laterWithCommon}
+use Rattle.published.specs.Causal.{Order, noOrder, firedOrder, CausalEnabled, reversedOrder}
+use Rattle.published.specs.Sheets.{petriNet, marksOf, historyOf, orderAfter, orderOfLines, laterWithCommon}
 
--- ---- The reading of Definitions 5 and 7: where a place is not both incoming and outgoing, the one formula is the chapter's
--- three cases
+-- ---- The reading of Definitions 5 and 7. Where a place is not both incoming and outgoing, the one formula is the chapter's
+-- three cases. Where it is both, two of them speak of it, and it is the one that takes out and then the one that puts in.
+
+-- Definition 5's first and second case, of what a place has
+abbrev pub lost : PetriNet → Marks → Transition → ℕ → Items → Items
+lost N M t x C = minus C (leaves N M t x)
+
+abbrev pub got : PetriNet → Marks → Transition → ℕ → Items → Items
+got N M t x C = union C (union (N .puts t x) (comes N M t x))
 
 pub record FiredByCases (N : PetriNet) (M : Marks) (t : Transition) (x : ℕ) : Type 0 where
-  pub incoming : (Outgoing N t x → ⊥) → (i : Item) → Iff (firedMarks N M t x i) (minus (M x) (leaves N M t x) i)
-  pub outgoing : (Incoming N t x → ⊥) → (i : Item) → Iff (firedMarks N M t x i) (union (M x) (union (N .puts t x) (comes N M t x)) i)
+  pub incoming : (Outgoing N t x → ⊥) → (i : Item) → Iff (firedMarks N M t x i) (lost N M t x (M x) i)
+  pub outgoing : (Incoming N t x → ⊥) → (i : Item) → Iff (firedMarks N M t x i) (got N M t x (M x) i)
   pub neither : (Incoming N t x → ⊥) → (Outgoing N t x → ⊥) → (i : Item) → Iff (firedMarks N M t x i) (M x i)
+  pub both : Incoming N t x → Outgoing N t x → (i : Item) → Iff (firedMarks N M t x i) (got N M t x (lost N M t x (M x)) i)
+
+-- Definition 7's second and first case
+abbrev pub lostBack : PetriNet → Marks → Transition → ℕ → Items → Items
+lostBack N M t x C = minus C (leavesBack N M t x)
+
+abbrev pub gotBack : PetriNet → Marks → Transition → ℕ → Items → Items
+gotBack N M t x C = union C (comesBack N M t x)
 
 pub record ReversedByCases (N : PetriNet) (M : Marks) (t : Transition) (x : ℕ) : Type 0 where
-  pub incoming : (Outgoing N t x → ⊥) → (i : Item) → Iff (reversedMarks N M t x i) (union (M x) (comesBack N M t x) i)
-  pub outgoing : (Incoming N t x → ⊥) → (i : Item) → Iff (reversedMarks N M t x i) (minus (M x) (leavesBack N M t x) i)
+  pub incoming : (Outgoing N t x → ⊥) → (i : Item) → Iff (reversedMarks N M t x i) (gotBack N M t x (M x) i)
+  pub outgoing : (Incoming N t x → ⊥) → (i : Item) → Iff (reversedMarks N M t x i) (lostBack N M t x (M x) i)
   pub neither : (Incoming N t x → ⊥) → (Outgoing N t x → ⊥) → (i : Item) → Iff (reversedMarks N M t x i) (M x i)
+  pub both : Incoming N t x → Outgoing N t x → (i : Item) → Iff (reversedMarks N M t x i) (gotBack N M t x (lostBack N M t x (M x)) i)
+
+-- Of a net: at each of its places, on every marking. Whether a place is incoming, and whether it is outgoing, is decided, so
+-- that each falls under one of the four.
+pub record ByCases (net : Net) : Type 0 where
+  pub decided : (t : Transition) (x : ℕ) → petriNet net .isPlace x
+      → (Incoming (petriNet net) t x ⊎ (Incoming (petriNet net) t x → ⊥)) × (Outgoing (petriNet net) t x ⊎ (Outgoing (petriNet net) t x → ⊥))
+  pub fired : (s : Marking) (t : Transition) (x : ℕ) → petriNet net .isPlace x → FiredByCases (petriNet net) (marksOf net s) t x
+  pub reversed : (s : Marking) (t : Transition) (x : ℕ) → petriNet net .isPlace x → ReversedByCases (petriNet net) (marksOf net s) t x
+
+-- ---- The initial state
+
+-- The marking is the start of the net, one of the chapter's, with each base in exactly one place; the history is empty. (≺
+-- is empty too: it is what `orderAfter` begins with.)
+pub record Initial (net : Net) (M : Marks) (H : Keys) : Type 0 where
+  pub start : (x : ℕ) (i : Item) → Iff (M x i) (marksOf net (net .start) x i)
+  pub marking : IsMarking (petriNet net) M
+  pub onePlace : EachInOnePlace (petriNet net) M
+  pub history : (t : Transition) (k : ℕ) → Iff (H t k) (noKeys t k)
 
 -- ---- A journal j, with the relation R for ≺
 
-pub record AsPublished (net : Net) (j : Journal) (R : Order) : Type 0 where
+pub record JournalAsPublished (net : Net) (j : Journal) (R : Order) : Type 0 where
   -- its marking is one of the chapter's, with each base in exactly one place
   pub marking : IsMarking (petriNet net) (marksOf net (j .marking))
   pub onePlace : EachInOnePlace (petriNet net) (marksOf net (j .marking))
@@ -41,6 +78,9 @@ pub record AsPublished (net : Net) (j : Journal) (R : Order) : Type 0 where
   -- a firing gives the marking of Definition 5
   pub fires : (t : Transition) → clear (enableChecks net (j .marking) t) ≡ true
       → (x : ℕ) (i : Item) → Iff (marksOf net (fireReply net j t .journal .marking) x i) (firedMarks (petriNet net) (marksOf net (j .marking)) t x i)
+  -- and moves the bases that leave by it
+  pub moves : (t : Transition) → clear (enableChecks net (j .marking) t) ≡ true
+      → (a : ℕ) → Iff (inSet (newLine net j t .moved) a ≡ true) (Somewhere (leaves (petriNet net) (marksOf net (j .marking)) t) a)
   -- kind 2 is accepted, and takes back a firing of t, exactly where t is bt-enabled (Definition 6)
   pub last : (t : Transition) → Iff
       ((clear (undoChecks j (highestLive (j .lines))) ≡ true) × (lineOf (highestLive (j .lines)) (j .lines) .transition ≡ t))
@@ -55,20 +95,35 @@ pub record AsPublished (net : Net) (j : Journal) (R : Order) : Type 0 where
   -- Definition 12's too
   pub undoes : (k : Key) → clear (undoChecks j k) ≡ true
       → (x : ℕ) (i : Item) → Iff (marksOf net (undoReply net j k .journal .marking) x i) (reversedMarks (petriNet net) (marksOf net (j .marking)) (lineOf k (j .lines) .transition) x i)
+  -- the bases that leave by Definition 7 are those that the firing moved
+  pub movesBack : (k : Key) → clear (undoChecks j k) ≡ true
+      → (a : ℕ) → Iff (inSet (lineOf k (j .lines) .moved) a ≡ true) (Somewhere (leavesBack (petriNet net) (marksOf net (j .marking)) (lineOf k (j .lines) .transition)) a)
   pub undoneKeys : (k : Key) → clear (undoChecks j k) ≡ true
       → (u : Transition) (i : ℕ) → Iff (historyOf (undoReply net j k .journal) u i) (reversedKeys (historyOf j) (lineOf k (j .lines) .transition) u i)
+  -- a firing gives ≺ of Definition 10; a taking back that of Definition 12, by kind 2 as by kind 3 (the chapter keeps no ≺ in
+  -- backtracking, so Definition 12 is the one there is)
+  pub orderFired : (t : Transition) → clear (enableChecks net (j .marking) t) ≡ true
+      → (u : Transition) (i : ℕ) (v : Transition) (n : ℕ)
+      → Iff (laterWithCommon (fireReply net j t .journal) u i v n) (firedOrder (petriNet net) (marksOf net (j .marking)) (historyOf (fireReply net j t .journal)) R t u i v n)
+  pub orderUndone : (k : Key) → clear (undoChecks j k) ≡ true
+      → (u : Transition) (i : ℕ) (v : Transition) (n : ℕ)
+      → Iff (laterWithCommon (undoReply net j k .journal) u i v n) (reversedOrder (historyOf j) R (lineOf k (j .lines) .transition) u i v n)
 
 -- A firing gives the history of Definition 5. (T-03 changes this claim alone.)
-abbrev pub KeysAsPublished : Net → Journal → Type 0
-KeysAsPublished net j = (t u : Transition) (k : ℕ) → Iff (historyOf (fireReply net j t .journal) u k) (firedKeys (petriNet net) (historyOf j) t u k)
+abbrev pub JournalKeysAsPublished : Net → Journal → Type 0
+JournalKeysAsPublished net j = (t u : Transition) (k : ℕ) → Iff (historyOf (fireReply net j t .journal) u k) (firedKeys (petriNet net) (historyOf j) t u k)
 
--- ---- All of it, of a net and every list of commands on it. ≺ is what Definitions 10 and 12 keep over the commands. `states` is
+-- ---- All of it, of a net and every list of commands on it. ≺ is what Definitions 10 and 12 keep over the commands; of a sound
+-- history that is handed in, whose past is not known, what Definition 10 gives on the forward run of its lines. `states` is
 -- claimed of well-formed nets; that the net is one is a claim of its own, so that T-07, whose sheets need not keep
 -- Definition 3(2), changes that claim alone.
 
 pub record Published (net : Net) : Type 0 where
   pub definition2 : Definition2 (petriNet net)
   pub wellFormed : WellFormed (petriNet net)
-  pub initial : (t : Transition) (k : ℕ) → Iff (historyOf (begin net) t k) (noKeys t k)
-  pub states : WellFormed (petriNet net) → (cs : List (List ℕ)) → AsPublished net (play net cs (begin net)) (orderAfter net cs (begin net) noOrder)
-  pub keys : (cs : List (List ℕ)) → KeysAsPublished net (play net cs (begin net))
+  pub byCases : ByCases net
+  pub initial : Initial net (marksOf net (begin net .marking)) (historyOf (begin net))
+  pub states : WellFormed (petriNet net) → (cs : List (List ℕ)) → JournalAsPublished net (play net cs (begin net)) (orderAfter net cs (begin net) noOrder)
+  pub histories : WellFormed (petriNet net) → (j : Journal) → sound net j ≡ true → JournalAsPublished net j (orderOfLines net (j .lines))
+  pub keys : (cs : List (List ℕ)) → JournalKeysAsPublished net (play net cs (begin net))
+  pub historyKeys : (j : Journal) → sound net j ≡ true → JournalKeysAsPublished net j

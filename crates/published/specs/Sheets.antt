@@ -2,20 +2,20 @@
 -- and the relation ≺ that Definitions 10 and 12 keep over a session. Definitions only.
 use mathlib.Core.Path.{_≡_}
 use mathlib.Core.Bool.{true}
-use mathlib.Core.List.{List, [], _∷_}
+use mathlib.Core.List.{List, [], _∷_, _++_}
 use Prim.Native.Nat.{ℕ, _<_}
 use lib.ListN.{length}
 use Rattle.causal.specs.Lists.{Mem}
 use Rattle.causal.specs.Reorderings.{Dependent}
 use Rattle.net.specs.Net.{Marking, Net, hasBond, place, arcsOf}
-use Rattle.net.specs.Firing.{inSet}
-use Rattle.net.specs.Journal.{LiveLine, Journal, Answer, fired, undone, refused, lineOf, transitionNamed, act}
+use Rattle.net.specs.Firing.{inSet, fire}
+use Rattle.net.specs.Journal.{LiveLine, Journal, Answer, fired, undone, refused, begin, lineOf, transitionNamed, act}
 use Rattle.net.specs.declared.Bond.{Bond}
 use Rattle.net.specs.declared.Entry.{Entry}
 use Rattle.published.specs.Sets.{Item, base, bond, Items}
 use Rattle.published.specs.Nets.{PetriNet}
 use Rattle.published.specs.States.{Marks, Keys}
-use Rattle.published.specs.Causal.{Order, firedOrder, reversedOrder}
+use Rattle.published.specs.Causal.{Order, noOrder, firedOrder, reversedOrder}
 
 -- the base by which an item is found: a base itself, a bond's first base
 abbrev pub anchor : Item → ℕ
@@ -67,6 +67,19 @@ orderStep net j c j′ (refused n) R = R
 abbrev pub orderAfter : Net → List (List ℕ) → Journal → Order → Order
 orderAfter net [] j R = R
 orderAfter net (c ∷ cs) j R = orderAfter net cs (act net j c .journal) (orderStep net j c (act net j c .journal) (act net j c .answer) R)
+
+-- A journal with one line more, which is fired with the key on it.
+abbrev pub withLine : Net → Journal → LiveLine → Journal
+withLine net j l = record { marking = fire (net .bases) (arcsOf net (l .transition)) (j .marking); lines = j .lines ++ (l ∷ []) }
+
+-- ≺ after lines are fired in turn on j, each with its own key: Definition 10 at each
+abbrev pub orderOver : Net → List LiveLine → Journal → Order → Order
+orderOver net [] j R = R
+orderOver net (l ∷ ls) j R = orderOver net ls (withLine net j l) (firedOrder (petriNet net) (marksOf net (j .marking)) (historyOf (withLine net j l)) R (l .transition))
+
+-- ≺ of a list of lines alone: what Definition 10 gives on their forward run from the start, each with its own key
+abbrev pub orderOfLines : Net → List LiveLine → Order
+orderOfLines net ls = orderOver net ls (begin net) noOrder
 
 -- Document 01's dependence, as refusal 20 has it: two live firings, the second of higher key, that moved a common base.
 abbrev pub laterWithCommon : Journal → Order

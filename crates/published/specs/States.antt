@@ -14,6 +14,10 @@ use Rattle.published.specs.Nets.{PetriNet, Known}
 abbrev pub Marks : Type 1
 Marks = ℕ → Items
 
+-- the base a is in some place
+abbrev pub Somewhere : Marks → ℕ → Type 0
+Somewhere M a = (x : ℕ) × M x (base a)
+
 -- What is asked of a marking: only places have something in them, only bases and bonds of the net are there, and a bond is
 -- where its two bases are.
 pub record IsMarking (N : PetriNet) (M : Marks) : Type 0 where

@@ -1,0 +1,104 @@
+-- Document 01's sheets A and B: the premises of the demands are met. A refused sheet; and three commands on sheet B, one of each
+-- kind, that do what chapter 3 does. Assumes nothing.
+use mathlib.Core.Path.{_≡_, refl, _∙_, ap}
+use mathlib.Core.Bool.{true}
+use mathlib.Core.List.{List, [], _∷_}
+use Prim.Native.Nat.{ℕ}
+use lib.ListN.{set}
+use Rattle.net.specs.Net.{Net}
+use Rattle.net.specs.Checks.{clear}
+use Rattle.net.specs.Journal.{Journal, transition, begin, act, play}
+use Rattle.net.specs.Cases.{netB, fireOf, undoLast, undoOf}
+use Rattle.net.specs.declared.Transition.{Transition}
+use Rattle.published.specs.Sets.{Max}
+use Rattle.published.specs.Backtracking.{BacktrackEnabled}
+use Rattle.published.specs.Causal.{CausalEnabled}
+use Rattle.published.specs.Sheets.{petriNet, orderOfLines}
+use Rattle.format.specs.NetOf.{netOf}
+use Rattle.sheet.specs.Checks.{sheetChecks}
+use Rattle.sheet.specs.Samples.{sheetA, sheetB}
+use Rattle.sheet.proofs.Accepted.{promised}
+use Rattle.sheet.proofs.Samples.{sheetA-accepted, sheetB-accepted, sheetB-net, earlier-step-first}
+use Rattle.tally.specs.declared.Tally.{Tally}
+use Rattle.session.specs.Records.{heldIn, soundFor, Sound}
+use Rattle.session.specs.Commands.{freshOf, zeroRecord, startOf, answerOf, commandOf}
+use Rattle.session.specs.declared.Record.{Record}
+use Rattle.session.specs.declared.StartAnswer.the-variants.{NotStarted}
+use Rattle.session.proofs.Begins.{fresh-sound}
+use Rattle.claims.specs.Sessions.{sessionAfter}
+use Rattle.claims.specs.Published.{marksIn, historyIn, orderIn, CommandFires, CommandTakesBack, RecordAsPublished, FollowsPublished}
+use Rattle.claims.specs.Demands.{Demand3}
+use Rattle.claims.proofs.Records.{answer-is}
+use Rattle.claims.proofs.Published.{holds, session-passes}
+use Rattle.claims.proofs.Demands.{demands}
+
+-- ---- A and B are accepted; a damaged A is refused, and starts no session
+
+accepted-A : clear (sheetChecks sheetA) ≡ true
+accepted-A = demands .sheets sheetA .accepted .0 sheetA-accepted
+
+accepted-B : clear (sheetChecks sheetB) ≡ true
+accepted-B = demands .sheets sheetB .accepted .0 sheetB-accepted
+
+pub not-started : startOf (set (set sheetA 33 2) 34 0) ≡ record { answer = NotStarted 9; session = zeroRecord }
+not-started = demands .starts (set (set sheetA 33 2) 34 0) .refused 9 earlier-step-first
+
+-- ---- so demand 3 holds of every list of commands on them, and they do what the published definition does
+
+pub demand3-A : (cs : List (List ℕ)) (t : Tally) → Demand3 sheetA cs t
+demand3-A = demands .demand3 sheetA accepted-A
+
+pub demand3-B : (cs : List (List ℕ)) (t : Tally) → Demand3 sheetB cs t
+demand3-B = demands .demand3 sheetB accepted-B
+
+pub published-A : FollowsPublished sheetA
+published-A = demands .published sheetA accepted-A
+
+pub published-B : FollowsPublished sheetB
+published-B = demands .published sheetB accepted-B
+
+-- ---- what is asked of records is met: of the inner commands' by fresh ones, of those that are handed in by every record of a
+-- session
+
+pub sound-A : Sound sheetA (freshOf sheetA)
+sound-A = fresh-sound sheetA accepted-A
+
+pub sound-B : Sound sheetB (freshOf sheetB)
+sound-B = fresh-sound sheetB accepted-B
+
+pub passes-B : (cs : List (List ℕ)) (t : Tally) → soundFor sheetB (sessionAfter sheetB cs t .session) ≡ true
+passes-B cs t = let P = promised sheetB accepted-B in session-passes sheetB accepted-B (P .rule) (P .bases .1) cs t
+
+-- ---- M1, M4 and M5 on records: kind 1 fires transition 0; after M4, kind 2 takes back the last firing, and kind 3 that of serial 2
+
+abbrev recordB : List (List ℕ) → Tally → Record
+recordB cs t = sessionAfter sheetB cs t .session
+
+answer-B : (cs : List (List ℕ)) (t : Tally) (c : List ℕ) → commandOf sheetB (recordB cs t) t c .outcome .answer ≡ answerOf (act netB (play netB cs (begin netB)) c .answer)
+answer-B cs t c =
+    let P = promised sheetB accepted-B in
+    answer-is sheetB accepted-B (P .rule) (P .bases .1) (recordB cs t) (passes-B cs t) t c
+    ∙ ap (λ (j : Journal). answerOf (act (netOf sheetB) j c .answer)) (holds sheetB accepted-B (P .rule) (P .bases .1) cs t)
+    ∙ ap (λ (n : Net). answerOf (act n (play n cs (begin n)) c .answer)) sheetB-net
+
+shown : (cs : List (List ℕ)) (t : Tally) → RecordAsPublished sheetB (recordB cs t) (orderIn sheetB cs)
+shown cs t = published-B .sessions (published-B .wellFormed) cs t
+
+abbrev firings : List (List ℕ)
+firings = fireOf 0 ∷ fireOf 1 ∷ fireOf 2 ∷ []
+
+pub fires-M1 : (t : Tally) → CommandFires sheetB (recordB [] t) (orderIn sheetB []) t (fireOf 0) (transition 0)
+fires-M1 t = shown [] t .firesOnly t (fireOf 0) (answer-B [] t (fireOf 0)) .3
+
+pub last-M4 : (t : Tally) → (v : Transition) × petriNet (netOf sheetB) .isTransition v × BacktrackEnabled (petriNet (netOf sheetB)) (historyIn sheetB (recordB firings t)) v
+    × CommandTakesBack sheetB (recordB firings t) (orderIn sheetB firings) t undoLast v
+last-M4 t = shown firings t .undoesLastOnly t undoLast refl (answer-B firings t undoLast)
+
+pub taken-back-M5 : (t : Tally) → (v : Transition) × petriNet (netOf sheetB) .isTransition v
+    × CausalEnabled (petriNet (netOf sheetB)) (marksIn sheetB (recordB firings t)) (historyIn sheetB (recordB firings t)) (orderIn sheetB firings) v
+    × Max (historyIn sheetB (recordB firings t) v) 2 × CommandTakesBack sheetB (recordB firings t) (orderIn sheetB firings) t (undoOf 2) v
+taken-back-M5 t = shown firings t .undoesOnly t (undoOf 2) refl (answer-B firings t (undoOf 2))
+
+-- and so where the same record is handed in
+pub handed-in-M5 : (t : Tally) → RecordAsPublished sheetB (recordB firings t) (orderOfLines (netOf sheetB) (heldIn sheetB (recordB firings t) .lines))
+handed-in-M5 t = published-B .sound (published-B .wellFormed) (recordB firings t) (passes-B firings t)
