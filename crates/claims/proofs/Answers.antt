@@ -1,41 +1,28 @@
 -- Demands 1 and 2: one command on any sheet, record and tally.
 -- Assumes nothing.
 use mathlib.Core.Path.{_≡_, refl, sym, _∙_, ap}
-use mathlib.Core.Bool.{Bool, true, false, not}
-use mathlib.Core.List.{List, _∷_}
+use mathlib.Core.Bool.{Bool, true, false}
+use mathlib.Core.List.{List}
 use Prim.Native.Nat.{ℕ}
-use lib.Dec.{eqb, ltb}
-use borrow.Author.Tests.{eqb-true, eq-eqb}
+use lib.Dec.{eqb}
+use borrow.Author.Tests.{eq-eqb}
 use Rattle.causal.proofs.Tests.{test, both}
 use Rattle.net.specs.Tests.{pick}
-use Rattle.net.specs.Checks.{Check, check, clear, first}
-use Rattle.net.specs.Journal.{kindOf, transitionNamed, keyNamed, fireReply, undoReply, checks, fireChecks, undoChecks}
-use Rattle.net.proofs.Tests.{all-append}
+use Rattle.net.specs.Checks.{clear, first}
+use Rattle.net.specs.Journal.{kindOf, transitionNamed, keyNamed, fireReply, undoReply}
 use Rattle.format.specs.NetOf.{netOf}
-use Rattle.sheet.specs.Checks.{sheetChecks}
-use Rattle.sheet.proofs.Order.{clear-first}
 use Rattle.tally.specs.Counts.{countedOf}
 use Rattle.tally.specs.declared.Tally.{Tally}
 use Rattle.session.specs.declared.Record.{Record}
-use Rattle.session.specs.Records.{heldIn, soundFor}
-use Rattle.session.specs.Commands.{refusal, answerNumber, wordOf, outcomeOf, acceptOf, commandChecks, outcomeFor, commandOf}
+use Rattle.session.specs.Records.{heldIn}
+use Rattle.session.specs.Commands.{refusal, answerNumber, wordOf, outcomeOf, acceptOf, commandChecks, commandOf}
 use Rattle.session.specs.declared.Answer.{Answer}
 use Rattle.session.specs.declared.Answer.the-variants.{Fired, Undone, Refused}
 use Rattle.session.specs.declared.Outcome.{Outcome}
 use Rattle.session.proofs.Steps.{outcome-is}
-use Rattle.session.proofs.Answering.{sheet-positive}
+use Rattle.session.proofs.Answers.{when, none-first, answer-number}
 use Rattle.claims.specs.Demands.{oneMoreRefused, Demand1, Demand2}
-use Rattle.claims.proofs.Checks.{positive, first-found, found-first}
-
--- ---- the numbers of all checks of a command
-
-command-positive : (s : List ℕ) (r : Record) (c : List ℕ) → positive (commandChecks s r c) ≡ true
-command-positive s r c = all-append (λ (d : Check). ltb 0 (d .number)) (sheetChecks s) (check 10 (not (soundFor s r)) ∷ checks (netOf s) (heldIn s r) c)
-    ∙ rw (sheet-positive s) (kind (eqb (kindOf c) 1))
-  where
-    kind : (b : Bool) → positive (pick b (fireChecks (netOf s) (heldIn s r) (transitionNamed c)) (undoChecks (heldIn s r) (keyNamed (heldIn s r) c))) ≡ true
-    kind true = refl
-    kind false = refl
+use Rattle.claims.proofs.Checks.{first-found, found-first}
 
 -- ---- one outcome
 
@@ -55,19 +42,10 @@ accepted-answer s r c n e = go (eqb (kindOf c) 1) e
 -- the outcome, by whether some check holds
 module _ (s : List ℕ) (r : Record) (t : Tally) (c : List ℕ) where
   when-clear : clear (commandChecks s r c) ≡ true → commandOf s r t c .outcome ≡ acceptOf s r c
-  unfolding outcomeFor
-  when-clear h = outcome-is s r t c ∙ ap (λ (b : Bool). pick b (acceptOf s r c) (refusal r (first (commandChecks s r c)))) h
+  when-clear h = outcome-is s r t c ∙ when s r c true h
 
   when-held : clear (commandChecks s r c) ≡ false → commandOf s r t c .outcome ≡ refusal r (first (commandChecks s r c))
-  unfolding outcomeFor
-  when-held h = outcome-is s r t c ∙ ap (λ (b : Bool). pick b (acceptOf s r c) (refusal r (first (commandChecks s r c)))) h
-
-  accepted-number : answerNumber (acceptOf s r c .answer) ≡ 0
-  accepted-number = go (eqb (kindOf c) 1)
-    where
-      go : (b : Bool) → answerNumber (outcomeOf (pick b (fireReply (netOf s) (heldIn s r) (transitionNamed c)) (undoReply (netOf s) (heldIn s r) (keyNamed (heldIn s r) c))) .answer) ≡ 0
-      go true = refl
-      go false = refl
+  when-held h = outcome-is s r t c ∙ when s r c false h
 
   -- a refused answer has the number of the first check that holds
   refused-held : (n : ℕ) → commandOf s r t c .outcome .answer ≡ Refused n → (clear (commandChecks s r c) ≡ false) × (first (commandChecks s r c) ≡ n)
@@ -79,16 +57,10 @@ module _ (s : List ℕ) (r : Record) (t : Tally) (c : List ℕ) where
   unfolding commandOf countedOf
   tally-is n e = λ i. record { outcome = e i; tally = countedOf t (wordOf (e i .answer)) }
 
-  -- none holds exactly where the first number is 0
-  none : clear (commandChecks s r c) ≡ eqb (first (commandChecks s r c)) 0
-  none = clear-first (commandChecks s r c) (command-positive s r c)
-
   pub demand1 : Demand1 s r t c
   demand1 = record {
-    number = test (clear (commandChecks s r c))
-        (λ h. ap (λ (o : Outcome). answerNumber (o .answer)) (when-clear h) ∙ accepted-number ∙ sym (eqb-true (first (commandChecks s r c)) 0 (sym none ∙ h)))
-        (λ h. ap (λ (o : Outcome). answerNumber (o .answer)) (when-held h));
-    accepted = λ e. none ∙ eq-eqb (first (commandChecks s r c)) 0 e;
+    number = ap (λ (o : Outcome). answerNumber (o .answer)) (outcome-is s r t c) ∙ answer-number s r c;
+    accepted = λ e. none-first s r c ∙ eq-eqb (first (commandChecks s r c)) 0 e;
     refused = λ n e. let (h, q) = refused-held n e in tally-is n (when-held h ∙ ap (refusal r) q);
   }
 

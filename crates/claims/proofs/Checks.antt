@@ -1,19 +1,13 @@
--- Lists of checks: the first that holds, found and told; what all numbers have, that of the first has.
+-- Lists of checks: the first that holds, found and told.
 -- Assumes nothing.
 use mathlib.Core.Path.{_≡_, refl}
 use mathlib.Core.Bool.{Bool, true, false, not, _&&_}
 use mathlib.Core.List.{List, [], _∷_, _++_}
 use Prim.Native.Nat.{ℕ}
-use lib.Dec.{ltb}
 use Rattle.causal.proofs.Tests.{both}
-use Rattle.net.specs.Tests.{pick, all}
+use Rattle.net.specs.Tests.{pick}
 use Rattle.net.specs.Checks.{Check, check, clear, first}
-use Rattle.net.proofs.Tests.{and-l, and-r}
 use Rattle.claims.specs.Demands.{FirstHolds}
-
--- no check has the number 0
-abbrev pub positive : List Check → Bool
-positive cs = all (λ (c : Check). ltb 0 (c .number)) cs
 
 -- where some check holds, the first that does is found
 pub first-found : (cs : List Check) → clear cs ≡ false → FirstHolds (first cs) cs
@@ -32,13 +26,4 @@ found-first n (c ∷ before) after h = go (c .holds) h (found-first n before aft
         → (clear before ≡ true → (first (before ++ check n true ∷ after) ≡ n) × (clear (before ++ check n true ∷ after) ≡ false))
         → (pick b (c .number) (first (before ++ check n true ∷ after)) ≡ n) × ((not b && clear (before ++ check n true ∷ after)) ≡ false)
     go true d ih = both false d refl
-    go false d ih = ih d
-
--- what holds of every number holds of the first
-pub first-has : (f : ℕ → Bool) (cs : List Check) → all (λ (c : Check). f (c .number)) cs ≡ true → clear cs ≡ false → f (first cs) ≡ true
-first-has f [] a h = both true refl h
-first-has f (c ∷ cs) a h = go (c .holds) h (first-has f cs (and-r (f (c .number)) (all (λ (d : Check). f (d .number)) cs) a))
-  where
-    go : (b : Bool) → (not b && clear cs) ≡ false → (clear cs ≡ false → f (first cs) ≡ true) → f (pick b (c .number) (first cs)) ≡ true
-    go true d ih = and-l (f (c .number)) (all (λ (e : Check). f (e .number)) cs) a
     go false d ih = ih d

@@ -20,7 +20,8 @@ use Rattle.session.specs.declared.Start.{Start}
 use Rattle.session.specs.declared.StartAnswer.the-variants.{Started, NotStarted}
 use Rattle.session.proofs.Answering.{sheet-positive}
 use Rattle.claims.specs.Demands.{FirstHolds, SheetAnswered, SheetStarts}
-use Rattle.claims.proofs.Checks.{first-found, found-first, first-has}
+use Rattle.net.proofs.Checks.{first-has}
+use Rattle.claims.proofs.Checks.{first-found, found-first}
 
 -- ---- the numbers are 1 to 9
 

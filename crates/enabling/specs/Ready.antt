@@ -1,5 +1,5 @@
--- What is known where a transition is looked at: the marking is in its form and good, and the sheet was accepted.
--- Definitions only.
+-- What the code asks where it looks at a transition: a marking in its form, its bonds in order, and every base within the
+-- number of bases. Definitions only. (A good marking and an accepted sheet give it: proofs of steps.)
 use mathlib.Core.Path.{_≡_}
 use mathlib.Core.Bool.{true}
 use Prim.Native.Nat.{ℕ, _<_, _≤_}

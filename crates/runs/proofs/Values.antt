@@ -1,15 +1,15 @@
 -- Every refusal of a command on a sound record is 11 to 21.
 -- Assumes nothing.
 use mathlib.Core.Path.{_≡_, refl, sym, _∙_, ap}
-use mathlib.Core.Bool.{Bool, true, false, not, _&&_}
+use mathlib.Core.Bool.{Bool, true, false, _&&_}
 use mathlib.Core.List.{List, [], _∷_}
 use Prim.Native.Nat.{ℕ}
 use lib.Dec.{eqb, leb}
-use Rattle.causal.proofs.Tests.{both}
 use Rattle.net.specs.Tests.{pick, all}
 use Rattle.net.specs.Checks.{Check, clear, first}
 use Rattle.net.specs.Journal.{kindOf, transitionNamed, keyNamed, fireReply, undoReply, checks, fireChecks, undoChecks}
-use Rattle.net.proofs.Tests.{and-l, and-r, and-i}
+use Rattle.net.proofs.Checks.{first-has}
+use Rattle.net.proofs.Tests.{and-i}
 use Rattle.format.specs.NetOf.{netOf}
 use Rattle.tally.specs.declared.Tally.{Tally}
 use Rattle.session.specs.Records.{heldIn, Sound}
@@ -26,15 +26,6 @@ within n = leb 11 n && leb n 21
 
 abbrev high : Check → Bool
 high c = within (c .number)
-
--- the first of checks with such numbers has one
-first-high : (cs : List Check) → all high cs ≡ true → clear cs ≡ false → within (first cs) ≡ true
-first-high [] h e = both true refl e
-first-high (c ∷ cs) h e = go (c .holds) e (first-high cs (and-r (high c) (all high cs) h))
-  where
-    go : (b : Bool) → (not b && clear cs) ≡ false → (clear cs ≡ false → within (first cs) ≡ true) → within (pick b (c .number) (first cs)) ≡ true
-    go true d ih = and-l (high c) (all high cs) h
-    go false d ih = ih d
 
 module _ (s : List ℕ) (r : Record) (c : List ℕ) where
   all-high : all high (checks (netOf s) (heldIn s r) c) ≡ true
@@ -57,7 +48,7 @@ module _ (s : List ℕ) (r : Record) (c : List ℕ) where
     where
       go : (b : Bool) → clear (checks (netOf s) (heldIn s r) c) ≡ b → lowRefusal (pick b (acceptOf s r c) (refusal r (first (checks (netOf s) (heldIn s r) c))) .answer) ≡ true
       go true e = accepted-low
-      go false e = first-high (checks (netOf s) (heldIn s r) c) all-high e
+      go false e = first-has within (checks (netOf s) (heldIn s r) c) all-high e
 
 -- every answer of a list of commands
 pub all-low : (s : List ℕ) (cs : List (List ℕ)) (r : Record) (t : Tally) → Sound s r → all (λ (a : Answered). lowRefusal (a .answer)) (runOf s cs r t .answers) ≡ true

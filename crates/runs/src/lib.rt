@@ -27,7 +27,7 @@ pub struct Ran {
 }
 
 // The bytes of the command from `at` on: three, or those that are left. `run` asks only below the length.
-fn command_at<'a>(commands: &'a [u8], at: usize) -> &'a [u8]
+pub fn command_at<'a>(commands: &'a [u8], at: usize) -> &'a [u8]
     requires { ⌜ at < length (now commands) ⌝ }
     ensures { λ r. ⌜ now r ≡ take 3 (drop at (now (commands .entry))) ⌝ }
 {

@@ -2,4 +2,3 @@
 pub mod Records
 pub mod Commands
 pub mod Runs
-pub mod Listings

@@ -1,5 +1,5 @@
 -- The checks of a sheet in checking order (01, the turned-away list, 1 to 9), and the answer to a sheet.
--- Definitions only. The conditions are those of sheet_start (1 to 6), sheet_arcs (7, 8) and sheet_bonds (9).
+-- Definitions only. The conditions are those of sheet_head (1 to 6), sheet_arcs (7, 8) and sheet_bonds (9).
 use Prim.Native.Nat.{ℕ, zero, suc, _+_}
 use mathlib.Core.List.{List, [], _∷_, _++_}
 use Rattle.net.specs.Tests.{pick}

@@ -1,5 +1,5 @@
 // Which sheets are accepted (document 01, the turned-away list, 1 to 9): the checks in order, the first that holds answered.
-// The conditions themselves are the crates sheet_start's (1 to 6), sheet_arcs's (7, 8) and sheet_bonds's (9).
+// The conditions themselves are the crates sheet_head's (1 to 6), sheet_arcs's (7, 8) and sheet_bonds's (9).
 ghost use mathlib.Core.Path.{_≡_};
 ghost use Prim.Native.Nat.{_+_, _<_};
 ghost use Rattle.net.specs.Checks.{first};

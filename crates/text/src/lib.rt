@@ -5,7 +5,7 @@ ghost use lib.ListN.{length};
 ghost use Rattle.text.specs.Decimal.{digits};
 ghost use Rattle.text.specs.Writes.{Wrote};
 
-// The last `places` digits of n, with no zero in front. Answers where the text ends.
+// n in decimal, where it has at most `places` digits; of a longer number the last ones. Answers where the text ends.
 // The callers have checked that the buffer is long enough, as for the function below.
 pub fn put_digits(buf: &mut [u8], at: usize, n: u32, places: usize) -> usize
     requires { ⌜ at + places ≤ length (now buf) ⌝ }
