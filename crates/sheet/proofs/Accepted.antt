@@ -18,6 +18,7 @@ use Rattle.net.specs.Rules.{startPlacesRule, startBondRule, startBondsRule, arc
 use Rattle.net.specs.Checks.{Check, check, clear, first}
 use Rattle.net.specs.Journal.{transition}
 use Rattle.net.specs.declared.Bond.{Bond}
+use Rattle.net.specs.declared.Transition.{Transition}
 use Rattle.net.proofs.Tests.{and-l, and-r, or-no-l, or-no-r, all-e, all-at, all-append}
 use Rattle.format.specs.Bytes.{outside, headerWidth, bondWidth}
 use Rattle.format.specs.Parts.{placesOf, basesOf, transitionsOf, startPlaces, startBonds, transitionBytes}
@@ -39,14 +40,14 @@ clear-r : (cs ds : List Check) → clear (cs ++ ds) ≡ true → clear ds ≡ tr
 clear-r cs ds h = and-r (clear cs) (clear ds) (sym (all-append off cs ds) ∙ h)
 
 -- none of the checks of a transition holds
-from-clear : (s : List ℕ) (k n j : ℕ) → clear (checksFrom s k n) ≡ true → j < n → clear (transitionChecks s (k + j)) ≡ true
+from-clear : (s : List ℕ) (k n j : ℕ) → clear (checksFrom s k n) ≡ true → j < n → clear (transitionChecks s (transition (k + j))) ≡ true
 from-clear s k zero j h i = absurd (not-suc-le-zero i)
 from-clear s k (suc n) zero h i =
     let e : k + 0 ≡ k = omega arith in
-    rw e (clear-l (transitionChecks s k) (checksFrom s (k + 1) n) h)
+    rw e (clear-l (transitionChecks s (transition k)) (checksFrom s (k + 1) n) h)
 from-clear s k (suc n) (suc j) h i =
     let e : k + suc j ≡ k + 1 + j = omega arith in
-    rw e (from-clear s (k + 1) n j (clear-r (transitionChecks s k) (checksFrom s (k + 1) n) h) (le-of-suc-le-suc i))
+    rw e (from-clear s (k + 1) n j (clear-r (transitionChecks s (transition k)) (checksFrom s (k + 1) n) h) (le-of-suc-le-suc i))
 
 module _ (s : List ℕ) (h : clear (sheetChecks s) ≡ true) where
   head : clear (headChecks s) ≡ true
@@ -61,11 +62,11 @@ module _ (s : List ℕ) (h : clear (sheetChecks s) ≡ true) where
   head-at : (i : ℕ) → i < 6 → getD (headChecks s) i (check 0 false) .holds ≡ false
   head-at i k = not-true _ (all-at off (headChecks s) (check 0 false) i head k)
 
-  at-transition : (k i : ℕ) → k < transitionsOf s → i < 3 → getD (transitionChecks s k) i (check 0 false) .holds ≡ false
-  at-transition k i j d =
-      let z : 0 + k ≡ k = omega arith in
-      let e : clear (transitionChecks s k) ≡ true = rw z at (from-clear s 0 (transitionsOf s) k tail j) in
-      not-true _ (all-at off (transitionChecks s k) (check 0 false) i e d)
+  at-transition : (t : Transition) (i : ℕ) → t .0 < transitionsOf s → i < 3 → getD (transitionChecks s t) i (check 0 false) .holds ≡ false
+  at-transition t i j d =
+      let z : 0 + t .0 ≡ t .0 = omega arith in
+      let e : clear (transitionChecks s t) ≡ true = rw z at (from-clear s 0 (transitionsOf s) (t .0) tail j) in
+      not-true _ (all-at off (transitionChecks s t) (check 0 false) i e d)
 
   -- ---- the start
 
@@ -94,13 +95,13 @@ module _ (s : List ℕ) (h : clear (sheetChecks s) ≡ true) where
 
   -- ---- the transitions
 
-  arcs-good : (k : ℕ) → k < transitionsOf s → GoodArcs (placesOf s) (basesOf s) (arcsAt s k)
-  arcs-good k i =
-      good-arcs (placesOf s) (basesOf s) (transitionBytes s (transition k)) (at-transition k 0 i (omega arith)) (at-transition k 1 i (omega arith)) (at-transition k 2 i (omega arith))
+  arcs-good : (t : Transition) → t .0 < transitionsOf s → GoodArcs (placesOf s) (basesOf s) (arcsAt s t)
+  arcs-good t i =
+      good-arcs (placesOf s) (basesOf s) (transitionBytes s t) (at-transition t 0 i (omega arith)) (at-transition t 1 i (omega arith)) (at-transition t 2 i (omega arith))
 
-  all-arcs : all (arcsRule (placesOf s) (basesOf s)) (table (transitionsOf s) (arcsAt s)) ≡ true
-  all-arcs = all-table (arcsRule (placesOf s) (basesOf s)) (transitionsOf s) (arcsAt s) (λ k i.
-      arcs-rule (placesOf s) (basesOf s) (transitionBytes s (transition k)) (at-transition k 0 i (omega arith)) (at-transition k 1 i (omega arith)) (at-transition k 2 i (omega arith)))
+  all-arcs : all (arcsRule (placesOf s) (basesOf s)) (table (transitionsOf s) (λ k. arcsAt s (transition k))) ≡ true
+  all-arcs = all-table (arcsRule (placesOf s) (basesOf s)) (transitionsOf s) (λ k. arcsAt s (transition k)) (λ k i.
+      arcs-rule (placesOf s) (basesOf s) (transitionBytes s (transition k)) (at-transition (transition k) 0 i (omega arith)) (at-transition (transition k) 1 i (omega arith)) (at-transition (transition k) 2 i (omega arith)))
 
   -- An accepted sheet's net keeps the sheet's rules.
   pub net-rule : netRule (netOf s) ≡ true

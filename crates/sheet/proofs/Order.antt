@@ -10,6 +10,7 @@ use borrow.Author.Tests.{ltb-true, eq-eqb, ne-eqb}
 use Rattle.net.specs.Tests.{pick, all}
 use Rattle.net.specs.Checks.{Check, clear, first, numbers}
 use Rattle.net.specs.Journal.{transition}
+use Rattle.net.specs.declared.Transition.{Transition}
 use Rattle.net.proofs.Tests.{and-l, and-r}
 use Rattle.format.specs.Parts.{placesOf, basesOf, transitionsOf, transitionBytes}
 use Rattle.sheet_arcs.specs.Conditions.{wrongWidth, wrongEntries}
@@ -52,29 +53,29 @@ transition-numbers s k = refl
 
 -- ---- one transition
 
-module _ (s : List ℕ) (k : ℕ) (b : List ℕ) (places bases : ℕ) (eb : b ≡ transitionBytes s (transition k)) (ep : places ≡ placesOf s) (eq : bases ≡ basesOf s) where
-  pub refused-7 : wrongWidth b ≡ true → 7 ≡ first (transitionChecks s k)
+module _ (s : List ℕ) (t : Transition) (b : List ℕ) (places bases : ℕ) (eb : b ≡ transitionBytes s t) (ep : places ≡ placesOf s) (eq : bases ≡ basesOf s) where
+  pub refused-7 : wrongWidth b ≡ true → 7 ≡ first (transitionChecks s t)
   refused-7 h = rw (← eb, h)
 
-  pub refused-8 : wrongWidth b ≡ false → wrongEntries places bases b ≡ true → 8 ≡ first (transitionChecks s k)
+  pub refused-8 : wrongWidth b ≡ false → wrongEntries places bases b ≡ true → 8 ≡ first (transitionChecks s t)
   refused-8 h i = rw (← eb, ← ep, ← eq, h, i)
 
-  pub refused-9 : wrongWidth b ≡ false → wrongEntries places bases b ≡ false → wrongBonds b ≡ true → 9 ≡ first (transitionChecks s k)
+  pub refused-9 : wrongWidth b ≡ false → wrongEntries places bases b ≡ false → wrongBonds b ≡ true → 9 ≡ first (transitionChecks s t)
   refused-9 h i j = rw (← eb, ← ep, ← eq, h, i, j)
 
-  pub refused-none : wrongWidth b ≡ false → wrongEntries places bases b ≡ false → wrongBonds b ≡ false → 0 ≡ first (transitionChecks s k)
+  pub refused-none : wrongWidth b ≡ false → wrongEntries places bases b ≡ false → wrongBonds b ≡ false → 0 ≡ first (transitionChecks s t)
   refused-none h i j = rw (← eb, ← ep, ← eq, h, i, j)
 
 -- ---- the transitions from k on
 
 from-step : (s : List ℕ) (k n : ℕ) → 0 < n
-    → first (checksFrom s k n) ≡ pick (eqb (first (transitionChecks s k)) 0) (first (checksFrom s (k + 1) (n - 1))) (first (transitionChecks s k))
+    → first (checksFrom s k n) ≡ pick (eqb (first (transitionChecks s (transition k))) 0) (first (checksFrom s (k + 1) (n - 1))) (first (transitionChecks s (transition k)))
 from-step s k zero h = absurd (let z : ⊥ = omega arith in z)
 from-step s k (suc n) h =
     let e : suc n - 1 ≡ n = omega arith in
-    rw e (first-append (transitionChecks s k) (checksFrom s (k + 1) n) refl)
+    rw e (first-append (transitionChecks s (transition k)) (checksFrom s (k + 1) n) refl)
 
-module _ (s : List ℕ) (k n r : ℕ) (h : 0 < n) (e : r ≡ first (transitionChecks s k)) where
+module _ (s : List ℕ) (k n r : ℕ) (h : 0 < n) (e : r ≡ first (transitionChecks s (transition k))) where
   pub from-left : (r ≡ 0 → ⊥) → first (checksFrom s k n) ≡ r
   from-left d = from-step s k n h ∙ rw (← e, ne-eqb r 0 d)
 

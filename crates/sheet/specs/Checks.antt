@@ -5,6 +5,7 @@ use mathlib.Core.List.{List, [], _∷_, _++_}
 use Rattle.net.specs.Tests.{pick}
 use Rattle.net.specs.Checks.{Check, check, clear, first}
 use Rattle.net.specs.Journal.{transition}
+use Rattle.net.specs.declared.Transition.{Transition}
 use Rattle.format.specs.Parts.{placesOf, basesOf, transitionsOf, transitionBytes}
 use Rattle.sheet_head.specs.Conditions.{wrongSize, wrongVersion, wrongCounts, wrongPairs, wrongStartPlaces, wrongStartBonds}
 use Rattle.sheet_arcs.specs.Conditions.{wrongWidth, wrongEntries}
@@ -23,18 +24,18 @@ headChecks s =
     ∷ check 6 (wrongStartBonds s)
     ∷ []
 
--- what is checked of transition k
-abbrev pub transitionChecks : List ℕ → ℕ → List Check
-transitionChecks s k =
-    check 7 (wrongWidth (transitionBytes s (transition k)))
-    ∷ check 8 (wrongEntries (placesOf s) (basesOf s) (transitionBytes s (transition k)))
-    ∷ check 9 (wrongBonds (transitionBytes s (transition k)))
+-- what is checked of a transition
+abbrev pub transitionChecks : List ℕ → Transition → List Check
+transitionChecks s t =
+    check 7 (wrongWidth (transitionBytes s t))
+    ∷ check 8 (wrongEntries (placesOf s) (basesOf s) (transitionBytes s t))
+    ∷ check 9 (wrongBonds (transitionBytes s t))
     ∷ []
 
 -- the same of n transitions from k on: all of one before the next
 abbrev pub checksFrom : List ℕ → ℕ → ℕ → List Check
 checksFrom s k zero = []
-checksFrom s k (suc n) = transitionChecks s k ++ checksFrom s (k + 1) n
+checksFrom s k (suc n) = transitionChecks s (transition k) ++ checksFrom s (k + 1) n
 
 unfoldable pub sheetChecks : List ℕ → List Check
 sheetChecks s = headChecks s ++ checksFrom s 0 (transitionsOf s)

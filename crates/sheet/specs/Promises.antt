@@ -10,7 +10,7 @@ use Rattle.net.specs.Limits.{maxSheet, maxPlaces, maxBases, maxTransitions, max
 use Rattle.net.specs.Sorted.{ascends}
 use Rattle.net.specs.Net.{Arcs, lessBond, place}
 use Rattle.net.specs.Rules.{netRule}
-use Rattle.net.specs.Journal.{transition}
+use Rattle.net.specs.declared.Transition.{Transition}
 use Rattle.net.specs.declared.Bond.{Bond}
 use Rattle.net.specs.declared.Entry.{Entry}
 use Rattle.format.specs.Parts.{placesOf, basesOf, transitionsOf, transitionBytes}
@@ -25,9 +25,9 @@ Within n max = (0 < n) × (n ≤ max)
 abbrev pub BondWithin : ℕ → Bond → Type 0
 BondWithin bases b = (b .lo < b .hi) × (b .hi < bases)
 
--- the arcs of transition k
-abbrev pub arcsAt : List ℕ → ℕ → Arcs
-arcsAt s k = arcsIn (transitionBytes s (transition k))
+-- the arcs of a transition
+abbrev pub arcsAt : List ℕ → Transition → Arcs
+arcsAt s t = arcsIn (transitionBytes s t)
 
 -- of a transition's arcs: at least one entry and at most as many as may be; every number within its count
 pub record GoodArcs (places bases : ℕ) (t : Arcs) : Type 0 where
@@ -50,4 +50,4 @@ pub record Promised (s : List ℕ) : Type 0 where
   pub startOrder : ascends lessBond (startMarking s .bonds) ≡ true
   pub startBond : (b : Bond) → Mem b (startMarking s .bonds) → BondWithin (basesOf s) b
   -- each transition
-  pub arcs : (k : ℕ) → k < transitionsOf s → GoodArcs (placesOf s) (basesOf s) (arcsAt s k)
+  pub arcs : (t : Transition) → t .0 < transitionsOf s → GoodArcs (placesOf s) (basesOf s) (arcsAt s t)
