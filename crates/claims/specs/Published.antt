@@ -117,8 +117,8 @@ RecordKeysAsPublished s r = (t : Tally) (c : List ℕ) → commandOf s r t c .ou
 -- at each place; a fresh record holds the chapter's initial state; and, for a well-formed net, every record that a session
 -- can reach from a fresh one, and every record that is handed in and passes refusal 10's test. The past of such a record is
 -- not known, and its ≺ is what Definition 10 gives on the forward run of its live firings, each with its own key. That the
--- net is well-formed is a claim of its own, so that T-07, whose sheets need not keep Definition 3(2), changes that claim
--- alone.
+-- net is well-formed is a claim of its own: a sheet of T-07 need not keep Definition 3(2), and of such a net the claims that
+-- ask for it say nothing.
 
 pub record FollowsPublished (s : List ℕ) : Type 0 where
   pub definition2 : Definition2 (petriNet (netOf s))

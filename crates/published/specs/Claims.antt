@@ -115,8 +115,8 @@ JournalKeysAsPublished net j = (t u : Transition) (k : ℕ) → Iff (historyOf (
 
 -- ---- All of it, of a net and every list of commands on it. ≺ is what Definitions 10 and 12 keep over the commands; of a sound
 -- history that is handed in, whose past is not known, what Definition 10 gives on the forward run of its lines. `states` is
--- claimed of well-formed nets; that the net is one is a claim of its own, so that T-07, whose sheets need not keep
--- Definition 3(2), changes that claim alone.
+-- claimed of well-formed nets; that the net is one is a claim of its own: a sheet of T-07 need not keep Definition 3(2), and
+-- of its net `states` then says nothing.
 
 pub record Published (net : Net) : Type 0 where
   pub definition2 : Definition2 (petriNet net)
