@@ -1,106 +1,46 @@
-// Compares the two engines after a command: the answer, its key, the places, the bonds, and the tally with the live
-// firings; and counts.
+// Compares the two engines after a command: the answer with its key, the places, the bonds, the whole tally and the live
+// list (module live). What differs is a sum of the numbers below.
+use crate::live::live_differs;
 use marking::Marking;
+use net::MAX_BASES;
 use net::MAX_BONDS;
 use oracle::Reply;
-use session::Answer;
+use oracle::Totals;
+use oracle_net::sets::bonds_at;
+use oracle_net::sets::get;
+use oracle_net::sets::homes;
+use oracle_net::sets::join;
+use oracle_net::sets::only;
+use oracle_net::sets::partners;
 use session::Outcome;
+use session_tools::REFUSED;
+use session_tools::Said;
 use tally::Tally;
 
-fn get(s: &[u64], at: usize) -> u64 {
-    if at < s.len() { s[at] } else { 0 }
-}
+const ANSWER: u64 = 1;
 
-fn put(s: &mut [u64], at: usize, value: u64) {
-    if at < s.len() {
-        s[at] = value;
-    }
-}
+const PLACES: u64 = 2;
 
-// How often each answer was met (0 fired, 1 undone, else the refusal), how many commands were run, how many differed, and
-// how many sheets were refused.
-pub struct Counts {
-    pub answers: [u64; 32],
-    pub run: u64,
-    pub differed: u64,
-    pub refused: u64,
-}
+const BONDS: u64 = 4;
 
-pub fn none() -> Counts {
-    Counts {
-        answers: [0u64; 32],
-        run: 0,
-        differed: 0,
-        refused: 0,
-    }
-}
+const TALLY: u64 = 8;
 
-// Counts are taken below 2^32.
-fn sum(a: u64, b: u64) -> u64 {
-    a % 4294967296 + b % 4294967296
-}
+pub const LIVE: u64 = 16;
 
-fn sums(a: [u64; 32], b: [u64; 32]) -> [u64; 32] {
-    let mut all = [0u64; 32];
-    let mut i: usize = 0;
-    while i < 32 {
-        all[i] = sum(a[i], b[i]);
-        i += 1;
-    }
-    all
-}
+pub const MOVED: u64 = 32;
 
-// The counts of two groups together.
-pub fn together(a: Counts, b: Counts) -> Counts {
-    let x = a.answers;
-    let y = b.answers;
-    let answers = sums(x, y);
-    Counts {
-        answers: answers,
-        run: sum(a.run, b.run),
-        differed: sum(a.differed, b.differed),
-        refused: sum(a.refused, b.refused),
-    }
-}
+pub const UNUSED: u64 = 64;
 
-pub fn sheet_refused(c: Counts) -> Counts {
-    let mut next = c;
-    next.refused = sum(c.refused, 1);
-    next
-}
-
-fn counted(c: Counts, code: u8, same: bool) -> Counts {
-    let mut next = c;
-    let i = (code % 32) as usize;
-    next.answers[i] = sum(c.answers[i], 1);
-    next.run = sum(c.run, 1);
-    if !same {
-        next.differed = sum(c.differed, 1);
-    }
-    next
-}
-
-fn code_of(a: Answer) -> u8 {
-    match a {
-        Answer::Fired => 0,
-        Answer::Undone => 1,
-        Answer::Refused(n) => n,
-    }
-}
-
-fn only(a: usize) -> u64 {
-    1u64 << (a % 64)
+// A number where a thing is not the same.
+pub fn unless(same: bool, what: u64) -> u64 {
+    if same { 0 } else { what }
 }
 
 // A bond of ours goes to the rows of both its bases.
 fn lay_bond(rows: &mut [u64], lo: u8, hi: u8, there: bool) {
-    let p = lo as usize;
-    let q = hi as usize;
     if there {
-        let a = get(rows, p);
-        put(rows, p, a | only(q));
-        let b = get(rows, q);
-        put(rows, q, b | only(p));
+        join(rows, lo as usize, only(hi as usize));
+        join(rows, hi as usize, only(lo as usize));
     }
 }
 
@@ -116,54 +56,109 @@ fn lay_rows(rows: &mut [u64], m: Marking) {
     }
 }
 
-// A base has one place in the other engine, ours, and the same bonds there and on the whole.
-fn same_base(theirs: &[u64], place: u8, row: u64, b: usize) -> bool {
-    let x = place as usize;
-    let home = oracle::homes(theirs, b) == only(x);
-    let all = oracle::partners(theirs, b) == row;
-    let here = oracle::partners_in(theirs, x, b) == row;
-    home & (all & here)
+// A bond as one number, which grows in the order of bonds; 0 is none.
+fn bond_number(lo: u8, hi: u8) -> u64 {
+    lo as u64 * 256 + hi as u64
 }
 
-fn same_marking(theirs: &[u64], m: Marking, rows: &[u64], bases: usize) -> bool {
-    let places = m.places;
+// Whether a bond is of a lower base with a higher and comes after the one before, or, after the last, is 0.
+fn stands(last: u64, lo: u8, hi: u8, there: bool) -> bool {
+    if there {
+        (lo < hi) & (last < bond_number(lo, hi))
+    } else {
+        bond_number(lo, hi) == 0
+    }
+}
+
+// Our bonds stand in ascending order, each once, and 0 after them.
+fn bonds_stand(m: Marking) -> bool {
+    let lo = m.lo;
+    let hi = m.hi;
+    let n = m.count;
     let mut ok = true;
-    let mut b: usize = 0;
-    while b < 64 {
-        let same = same_base(theirs, places[b], get(rows, b), b);
-        ok = ok & (same | (bases <= b));
-        b += 1;
+    let mut last: u64 = 0;
+    let mut i: usize = 0;
+    while i < MAX_BONDS {
+        ok = ok & stands(last, lo[i], hi[i], i < n);
+        last = bond_number(lo[i], hi[i]);
+        i += 1;
     }
     ok
 }
 
-// Fired less undone is the number of live firings (document 01, commands, record, tally).
-fn tally_fits(t: Tally, live: usize) -> bool {
-    t.fired as u64 == t.undone as u64 + (live as u64 % 65536)
+// A base of the sheet has one place in the other engine, ours; a base that is not there has place 0.
+fn same_place(theirs: &[u64], place: u8, b: usize, bases: usize) -> bool {
+    if b < bases {
+        homes(theirs, b) == only(place as usize)
+    } else {
+        place == 0
+    }
 }
 
-fn same_answer(o: Outcome, reply: Reply) -> bool {
-    let a = o.answer;
-    let code = code_of(a);
-    (code == reply.code) & (o.key.0 == reply.key)
+fn places_differ(theirs: &[u64], places: [u8; MAX_BASES], bases: usize) -> u64 {
+    let mut all: u64 = 0;
+    let mut b: usize = 0;
+    while b < MAX_BASES {
+        all = all | unless(same_place(theirs, places[b], b, bases), PLACES);
+        b += 1;
+    }
+    all
 }
 
-// Compares, and counts.
-pub fn compared(
-    c: Counts,
-    o: Outcome,
-    t: Tally,
-    reply: Reply,
-    theirs: &[u64],
-    bases: usize,
-) -> Counts {
-    let a = o.answer;
-    let r = o.session;
-    let m = r.marking;
+// A base has the same bonds in the other engine, in its place and on the whole.
+fn same_bonds(theirs: &[u64], place: u8, row: u64, b: usize) -> bool {
+    let here = bonds_at(theirs, place as usize, b) == row;
+    here & (partners(theirs, b) == row)
+}
+
+fn rows_differ(theirs: &[u64], places: [u8; MAX_BASES], rows: &[u64]) -> u64 {
+    let mut all: u64 = 0;
+    let mut b: usize = 0;
+    while b < MAX_BASES {
+        all = all | unless(same_bonds(theirs, places[b], get(rows, b), b), BONDS);
+        b += 1;
+    }
+    all
+}
+
+fn marking_differs(theirs: &[u64], m: Marking, bases: usize) -> u64 {
     let mut rows = [0u64; 64];
     lay_rows(&mut rows, m);
-    let marked = same_marking(theirs, m, &rows, bases);
-    let answered = same_answer(o, reply);
-    let told = tally_fits(t, r.live);
-    counted(c, code_of(a), marked & (answered & told))
+    let places = m.places;
+    let a = places_differ(theirs, places, bases);
+    let b = rows_differ(theirs, places, &rows);
+    a | (b | unless(bonds_stand(m), BONDS))
+}
+
+// The second engine's tally is counted from its replies.
+fn tally_differs(t: Tally, other: Totals) -> u64 {
+    let fired = t.fired as u64 == other.fired;
+    let undone = t.undone as u64 == other.undone;
+    let refused = t.refused as u64 == other.refused;
+    unless(fired & (undone & refused), TALLY)
+}
+
+// A refused command has key 0.
+fn answer_differs(ours: Said, key: u16, reply: Reply) -> u64 {
+    let same = (ours.word == reply.word) & (ours.value == reply.value);
+    unless(same & ((key == 0) | (ours.word != REFUSED)), ANSWER)
+}
+
+// What differs after a command; 0 where nothing does.
+pub fn differs(
+    o: Outcome,
+    ours: Said,
+    t: Tally,
+    reply: Reply,
+    other: Totals,
+    theirs: &[u64],
+    h: &[u64],
+    bases: usize,
+) -> u64 {
+    let r = o.session;
+    let m = r.marking;
+    let answer = answer_differs(ours, o.key.0, reply);
+    let marking = marking_differs(theirs, m, bases);
+    let tally = tally_differs(t, other);
+    answer | (marking | (tally | live_differs(r, h)))
 }

@@ -1,5 +1,7 @@
-// A session on both engines, ours and the second one: commands by lot (commands), each given to both (play), and what they
-// answer and hold afterwards compared and counted (compare).
-mod commands;
-pub mod compare;
+// A session on both engines, ours and the second one: commands by lot (crate drawn), each given to both (play), at document
+// 01's limits too (edges), and what they answer and hold afterwards compared (compare, live) and counted (counts).
+mod compare;
+pub mod counts;
+pub mod edges;
+mod live;
 pub mod play;

@@ -4,12 +4,16 @@
 // document 01; the tally has one more in one count, and a refused command hands back the very record.
 mod same;
 
+use case_tools::bytes::one_more;
+use case_tools::print::print_run;
 use same::same_record;
-use session::Answer;
 use session::Record;
 use session::StartAnswer;
 use session::command_with;
 use session_start::start;
+use session_tools::Said;
+use session_tools::no_counts;
+use session_tools::said_of;
 use tally::Tally;
 
 pub struct Case {
@@ -20,16 +24,12 @@ pub struct Case {
     pub seen: u32,
 }
 
-fn more(n: u16) -> u16 {
-    if n < 65535 { n + 1 } else { n }
-}
-
 // One more run, and one more that differed unless it was as expected.
 pub fn counted(c: Case, same: bool) -> Case {
     let mut next = c;
-    next.run = more(c.run);
+    next.run = one_more(c.run);
     if !same {
-        next.differed = more(c.differed);
+        next.differed = one_more(c.differed);
     }
     next
 }
@@ -52,28 +52,30 @@ pub const FIRED: u8 = 30;
 
 pub const UNDONE: u8 = 31;
 
-fn code_of(a: Answer) -> u8 {
-    match a {
-        Answer::Fired => FIRED,
-        Answer::Undone => UNDONE,
-        Answer::Refused(n) => n,
+fn code_of(s: Said) -> u8 {
+    if s.word == session_tools::FIRED {
+        return FIRED;
     }
+    if s.word == session_tools::UNDONE {
+        return UNDONE;
+    }
+    (s.value % 256) as u8
 }
 
 // The count that a code adds to has one more, and the others stay; a count at 65,535 stays.
 fn tally_follows(before: Tally, after: Tally, code: u8) -> bool {
     let fired = if code == FIRED {
-        more(before.fired)
+        one_more(before.fired)
     } else {
         before.fired
     };
     let undone = if code == UNDONE {
-        more(before.undone)
+        one_more(before.undone)
     } else {
         before.undone
     };
     let refused = if code < FIRED {
-        more(before.refused)
+        one_more(before.refused)
     } else {
         before.refused
     };
@@ -89,7 +91,7 @@ pub fn given(c: Case, sheet: &[u8], bytes: &[u8], code: u8, key: u16) -> Case {
     let a = o.answer;
     let s = o.session;
     let kept = same_record(r, s);
-    let met = (code_of(a) == code) & (o.key.0 == key);
+    let met = (code_of(said_of(a, o.key)) == code) & (o.key.0 == key);
     let u = after.tally;
     let told = tally_follows(t, u, code);
     let mut next = answered(c, code, met & (told & (kept | (FIRED <= code))));
@@ -104,19 +106,11 @@ pub fn command(c: Case, sheet: &[u8], kind: u8, number: u16, code: u8, key: u16)
     given(c, sheet, &bytes, code, key)
 }
 
-fn zeros() -> Tally {
-    Tally {
-        fired: 0,
-        undone: 0,
-        refused: 0,
-    }
-}
-
 // A record under test, with a tally of zeros and nothing run.
 pub fn on(r: Record) -> Case {
     Case {
         session: r,
-        tally: zeros(),
+        tally: no_counts(),
         run: 0,
         differed: 0,
         seen: 0,
@@ -169,11 +163,6 @@ pub fn print_refusals(seen: u32) {
 
 // How many of a group were run, and how many differed; answers which answers were seen, these and others.
 pub fn print(name: &[u8], c: Case, others: u32) -> u32 {
-    io::write_all(1, name);
-    io::write_all(1, b": ");
-    io::print_decimal(1, c.run as u64);
-    io::write_all(1, b" run, ");
-    io::print_decimal(1, c.differed as u64);
-    io::write_all(1, b" differed\n");
+    print_run(name, c.run as u64, c.differed as u64);
     c.seen | others
 }

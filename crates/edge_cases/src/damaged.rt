@@ -1,15 +1,12 @@
 // Commands and starts on damaged sheets (1 to 9) and unsound records (10). A sheet is the first bytes of a room of 128.
 // What is wrong with the sheet comes before what is wrong with the record, and that before the command.
+use case_tools::bytes::byte;
 use command_case::Case;
 use command_case::begun;
 use command_case::given;
 use command_case::started;
 
 type Room = [u8; 128];
-
-fn byte(s: &[u8], at: usize) -> u8 {
-    if at < s.len() { s[at] } else { 0 }
-}
 
 // A sheet with the byte at a position changed.
 fn edited(sheet: &[u8], at: usize, value: u8) -> Room {
@@ -22,7 +19,8 @@ fn edited(sheet: &[u8], at: usize, value: u8) -> Room {
     room
 }
 
-// Starting, a command, an unreadable one and one cut short are all answered by the sheet's number; `wrong` is not sound.
+// Starting, a command, an unreadable one and one cut short are all answered by the sheet's number, and so is a command on the
+// record `wrong`.
 fn refused(c: Case, wrong: Case, sheet: &[u8], number: u8) -> Case {
     let mut d = started(c, sheet, number);
     d = given(d, sheet, b"\x01\x00\x00", number, 0);
@@ -47,8 +45,9 @@ fn cut(c: Case, wrong: Case, sheet: &[u8], n: usize, at: usize, value: u8, numbe
     }
 }
 
-// 1 to 9, once each: sheet A (40 bytes) and for 6 sheet B (98 bytes). The record is A's fresh one; `wrong` a record that is
-// sound for neither.
+// 1 to 9, once each: sheet A (40 bytes) and for 6 sheet B (98 bytes). The record is A's fresh one, which is not sound for B;
+// `wrong` is B's record with step 0 fired, which is sound for the whole sheet B and not for A. So each number but 6 is met
+// with 10 by `wrong`, and 6 by the fresh record.
 pub fn sheets(a: &[u8], b: &[u8], wrong: Case) -> Case {
     let mut c = begun(a);
     c = cut(c, wrong, a, 3, 0, 1, 1);

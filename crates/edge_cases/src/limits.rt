@@ -6,7 +6,8 @@ use command_case::FIRED;
 use command_case::UNDONE;
 use command_case::begun;
 use command_case::command;
-use net::Key;
+use command_case::with_record;
+use session_tools::with_key;
 
 // 11 once, and 10 until 256 are live.
 fn full(p: &[u8]) -> Case {
@@ -37,24 +38,15 @@ pub fn many_live(p: &[u8]) -> Case {
 }
 
 // The record with another serial in a live firing.
-fn with_key(c: Case, i: usize, key: u16) -> Case {
-    let mut d = c;
-    let mut r = c.session;
-    if i < 256 {
-        let mut f = r.firings[i];
-        let k = Key(key);
-        f.key = k;
-        r.firings[i] = f;
-    }
-    d.session = r;
-    d
+fn keyed(c: Case, i: usize, key: u16) -> Case {
+    with_record(c, with_key(c.session, i, key))
 }
 
 // From a record handed in whose serial was raised: 65,535 is given, the next is 18, where nothing earlier holds; taken back
 // it is given again. With nothing live the serial is 1.
 pub fn last_key(p: &[u8]) -> Case {
     let mut c = command(begun(p), p, 1, 11, FIRED, 1);
-    c = with_key(c, 0, 65534);
+    c = keyed(c, 0, 65534);
     c = command(c, p, 1, 10, FIRED, 65535);
     c = command(c, p, 1, 10, 18, 0);
     c = command(c, p, 1, 11, 18, 0);
@@ -69,7 +61,7 @@ pub fn last_key(p: &[u8]) -> Case {
 
 // 256 live, the last with serial 65,535: 17 comes before 18.
 pub fn both(p: &[u8]) -> Case {
-    let mut c = with_key(full(p), 255, 65535);
+    let mut c = keyed(full(p), 255, 65535);
     c = command(c, p, 1, 10, 17, 0);
     c = command(c, p, 3, 1, UNDONE, 1);
     c = command(c, p, 1, 10, 18, 0);

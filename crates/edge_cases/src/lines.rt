@@ -1,14 +1,11 @@
 // The answer line into lent buffers (document 01, the turned-away list, 22; the exam program).
 // A buffer of 23 bytes is refused, one of 24 is written to.
+use case_tools::bytes::byte;
 use command_case::Case;
 use command_case::answered;
 use net::Key;
 use report::answer_line;
 use session::Answer;
-
-fn byte(s: &[u8], at: usize) -> u8 {
-    if at < s.len() { s[at] } else { 0 }
-}
 
 // The buffer's bytes are those of the line, and from there on `#`, as it was before.
 fn holds(buf: &[u8], line: &[u8]) -> bool {

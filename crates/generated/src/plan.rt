@@ -17,7 +17,8 @@ pub struct Plan {
 }
 
 // Routes: each entry has places of its own; the entries of a transition come from one place and go to several; they go
-// together; they go together around a ring of places; the same, each transition for two bases of its own group.
+// together; they go together around a ring of places; the same, each transition for two bases of its own group; every other
+// transition takes its entries from place 0 to another place, and the one after it takes the same entries back.
 pub const APART: u64 = 0;
 
 pub const FORK: u64 = 1;
@@ -27,6 +28,8 @@ pub const TOGETHER: u64 = 2;
 pub const RING: u64 = 3;
 
 pub const GROUPS: u64 = 4;
+
+pub const SHUTTLE: u64 = 5;
 
 pub fn of(places: u64, bases: u64, transitions: u64, route: u64) -> Plan {
     Plan {
@@ -68,10 +71,11 @@ pub fn enters(p: Plan, seed: u64, t: u64, b: u64) -> bool {
     if p.route == GROUPS {
         return b / 2 == below(t, p.bases / 2);
     }
-    if b == below(t, p.bases) {
+    let k = if p.route == SHUTTLE { t / 2 } else { t };
+    if b == below(k, p.bases) {
         return true;
     }
-    falls(mixed(seed, t, b, 1), p.entries)
+    falls(mixed(seed, k, b, 1), p.entries)
 }
 
 // How far around the ring transition t begins.
@@ -82,8 +86,19 @@ fn turn(p: Plan, t: u64) -> u64 {
     t
 }
 
+// The place that the entries of a shuttle are at before transition t, where that is even, or after it.
+fn stop(p: Plan, seed: u64, t: u64, before: bool) -> u64 {
+    if (t % 2 == 0) == before {
+        return 0;
+    }
+    below(mixed(seed, t / 2, 0, 2), p.places)
+}
+
 // The in-place and the out-place of base b in transition t.
 pub fn from_of(p: Plan, seed: u64, t: u64, b: u64) -> u64 {
+    if p.route == SHUTTLE {
+        return stop(p, seed, t, true);
+    }
     if RING <= p.route {
         return below(turn(p, t), p.places);
     }
@@ -94,6 +109,9 @@ pub fn from_of(p: Plan, seed: u64, t: u64, b: u64) -> u64 {
 }
 
 pub fn to_of(p: Plan, seed: u64, t: u64, b: u64) -> u64 {
+    if p.route == SHUTTLE {
+        return stop(p, seed, t, false);
+    }
     if RING <= p.route {
         return below(turn(p, t) % 64 + 1, p.places);
     }
@@ -121,9 +139,28 @@ pub fn starts_bonded(p: Plan, seed: u64, a: u64, b: u64) -> bool {
     falls(mixed(seed, a, b, 5), p.start)
 }
 
+// Whether the bond a-b falls among the out-bonds of transition t that are no in-bonds.
+fn adds(p: Plan, seed: u64, t: u64, a: u64, b: u64) -> bool {
+    falls(mixed(seed, t, a, b % 64 + 200), p.outgoing)
+}
+
+// Whether the bond a-b may be an in-bond of transition t: on a shuttle's way back, one that the way out adds.
+fn may_come(p: Plan, seed: u64, t: u64, a: u64, b: u64) -> bool {
+    if p.route != SHUTTLE {
+        return true;
+    }
+    if t % 2 == 0 {
+        return false;
+    }
+    adds(p, seed, t - 1, a, b)
+}
+
 // Whether the bond a-b of two entries is an in-bond of transition t. It is an out-bond then, so that both places agree.
 fn comes(p: Plan, seed: u64, t: u64, a: u64, b: u64) -> bool {
     if from_of(p, seed, t, a) != from_of(p, seed, t, b) {
+        return false;
+    }
+    if !may_come(p, seed, t, a, b) {
         return false;
     }
     falls(mixed(seed, t, a, b % 64 + 100), p.incoming)
@@ -143,5 +180,5 @@ pub fn bonded(p: Plan, seed: u64, t: u64, a: u64, b: u64, outgoing: bool) -> boo
     if comes(p, seed, t, a, b) {
         return true;
     }
-    outgoing & falls(mixed(seed, t, a, b % 64 + 200), p.outgoing)
+    outgoing & adds(p, seed, t, a, b)
 }

@@ -8,12 +8,7 @@ use crate::plan::from_of;
 use crate::plan::start_of;
 use crate::plan::starts_bonded;
 use crate::plan::to_of;
-
-fn put(buf: &mut [u8], at: usize, value: u64) {
-    if at < buf.len() {
-        buf[at] = (value % 256) as u8;
-    }
-}
+use case_tools::bytes::put;
 
 fn within(at: usize) -> usize
     ensures { λ r. ⌜ r ≤ 40000 ⌝ }

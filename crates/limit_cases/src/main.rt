@@ -1,8 +1,9 @@
 // How many commands the exam program reads (document 01, the exam program): 65,535 whole commands with two more bytes behind
 // them, one whole command fewer, and one more. Prints how long each output is, and its end. Worked out from document 01.
+use case_tools::bytes::put_all;
 use output::MAX_OUTPUT;
 use output::write_output;
-use text::put_word;
+use samples::sheet_a;
 
 // Room for the sheet's length, sheet A and 65,536 commands.
 const ROOM: usize = 196650;
@@ -17,58 +18,10 @@ fn output_room() -> [u8; MAX_OUTPUT] {
 }
 
 // Sheet A with its length in front: 42 bytes.
-fn put_sheet(buf: &mut [u8]) -> usize {
-    if buf.len() < 42 {
-        return 0;
-    }
-    put_word(
-        buf,
-        0,
-        &[
-            40,
-            0,
-            1,
-            2,
-            3,
-            2,
-            20,
-            0,
-            3,
-            0,
-            23,
-            0,
-            0,
-            0,
-            23,
-            0,
-            11,
-            0,
-            34,
-            0,
-            6,
-            0,
-            0,
-            0,
-            0,
-            2,
-            0,
-            0,
-            1,
-            1,
-            0,
-            1,
-            0,
-            1,
-            0,
-            1,
-            1,
-            2,
-            0,
-            1,
-            0,
-            0,
-        ],
-    )
+fn put_sheet(buf: &mut [u8]) {
+    let a = sheet_a();
+    put_all(buf, 0, b"\x28\x00");
+    put_all(buf, 2, &a);
 }
 
 // The last bytes of a text.

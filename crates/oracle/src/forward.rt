@@ -1,6 +1,5 @@
 // Forward execution (document 004, Definitions 4 and 5), with document 01's numbers 13 to 16 in checking order.
 // Markings and labels are lent slices of 4,160 words (oracle_net, sets).
-ghost use Prim.Native.Nat.{_≤_};
 use oracle_net::con::cons;
 use oracle_net::moving::copy;
 use oracle_net::moving::join_labels;
@@ -84,9 +83,7 @@ fn forked(m: &[u64], outgoing: &[u64], post: &[u64]) -> u64 {
 }
 
 // The first of 13 to 16 that holds; 0 where the transition is forward-enabled.
-pub fn hindrance(m: &[u64], incoming: &[u64], outgoing: &[u64], post: &[u64]) -> u8
-    ensures { λ r. ⌜ r ≤ 16 ⌝ }
-{
+pub fn hindrance(m: &[u64], incoming: &[u64], outgoing: &[u64], post: &[u64]) -> u8 {
     if lacking_bases(m, incoming) != 0 {
         return 13;
     }

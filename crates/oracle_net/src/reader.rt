@@ -56,7 +56,7 @@ pub fn start_bond_count(sheet: &[u8]) -> usize
 }
 
 // Where a transition's bytes begin, and its number of entries.
-pub fn begins(sheet: &[u8], t: usize) -> usize
+fn begins(sheet: &[u8], t: usize) -> usize
     ensures { λ r. ⌜ r ≤ 65535 ⌝ }
 {
     word(sheet, 12 + 4 * (t % 64))

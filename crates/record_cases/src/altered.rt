@@ -7,7 +7,6 @@ use crate::edits::with_bond_count;
 use crate::edits::with_exchange;
 use crate::edits::with_firing;
 use crate::edits::with_flag;
-use crate::edits::with_key;
 use crate::edits::with_keys;
 use crate::edits::with_live;
 use crate::edits::with_place;
@@ -17,6 +16,7 @@ use command_case::UNDONE;
 use command_case::given;
 use command_case::with_record;
 use session::Record;
+use session_tools::with_key;
 
 // A taking back on an altered record; the case keeps its own record.
 pub fn tried(c: Case, b: &[u8], r: Record, code: u8, key: u16) -> Case {

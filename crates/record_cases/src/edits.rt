@@ -1,8 +1,8 @@
 // A record with one thing changed; nothing where the entry is not there.
 // The cases alter each field of a sound record in turn.
 use firings::Firing;
-use net::Key;
 use session::Record;
+use session_tools::with_key;
 
 pub fn with_place(r: Record, base: usize, place: u8) -> Record {
     let mut next = r;
@@ -53,13 +53,6 @@ pub fn with_firing(r: Record, i: usize, f: Firing) -> Record {
 pub fn with_transition(r: Record, i: usize, t: u8) -> Record {
     let mut f = firing_at(r, i);
     f.transition = t;
-    with_firing(r, i, f)
-}
-
-pub fn with_key(r: Record, i: usize, key: u16) -> Record {
-    let mut f = firing_at(r, i);
-    let k = Key(key);
-    f.key = k;
     with_firing(r, i, f)
 }
 

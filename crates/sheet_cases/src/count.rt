@@ -1,4 +1,6 @@
-// How many sheets were run, and how many were answered otherwise than expected. A count at its limit stays there.
+// How many sheets were run, and how many were answered otherwise than expected.
+// A count at its limit stays there.
+use case_tools::bytes::one_more;
 use sheet::check_sheet;
 use sheet::sheet_number;
 
@@ -14,20 +16,16 @@ pub fn none() -> Count {
     }
 }
 
-fn more(n: u16) -> u16 {
-    if n < 65535 { n + 1 } else { n }
-}
-
 fn counted(c: Count, same: bool) -> Count {
     if same {
         Count {
-            run: more(c.run),
+            run: one_more(c.run),
             differed: c.differed,
         }
     } else {
         Count {
-            run: more(c.run),
-            differed: more(c.differed),
+            run: one_more(c.run),
+            differed: one_more(c.differed),
         }
     }
 }

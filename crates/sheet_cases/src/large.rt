@@ -4,15 +4,16 @@ ghost use Prim.Native.Nat.{_<_, _≤_};
 use crate::count::Count;
 use crate::count::judged;
 use crate::count::none;
+use case_tools::bytes::put;
 
 // A sheet's counts: places, parts, steps, start couplings; of each step the entries and the out-couplings.
-pub struct Shape {
-    pub places: u8,
-    pub parts: u8,
-    pub steps: u8,
-    pub start: u8,
-    pub entries: u8,
-    pub bonds: u8,
+struct Shape {
+    places: u8,
+    parts: u8,
+    steps: u8,
+    start: u8,
+    entries: u8,
+    bonds: u8,
 }
 
 // Where the start places begin, the start couplings, a step.
@@ -40,18 +41,12 @@ fn step_at(s: Shape, k: u8) -> usize
     start_at(s) + 2 * (s.start as usize) + k as usize * width(s)
 }
 
-// A byte, where the buffer has the position; a two-byte number.
-fn put(buf: &mut [u8], at: usize, value: u8) {
-    if at < buf.len() {
-        buf[at] = value;
-    }
-}
-
+// A two-byte number.
 fn put_word(buf: &mut [u8], at: usize, value: usize)
     requires { ⌜ at < 1000000 ⌝ }
 {
-    put(buf, at, (value % 256) as u8);
-    put(buf, at + 1, (value / 256 % 256) as u8);
+    put(buf, at, value as u64);
+    put(buf, at + 1, value as u64 / 256);
 }
 
 // A pair: its number, offset and length.
@@ -68,8 +63,8 @@ fn put_bonds(buf: &mut [u8], at: usize, n: u8)
 {
     let mut i: u8 = 0;
     while i < n {
-        put(buf, at + 2 * (i as usize), i / 16);
-        put(buf, at + 2 * (i as usize) + 1, 16 + i % 16);
+        put(buf, at + 2 * (i as usize), i as u64 / 16);
+        put(buf, at + 2 * (i as usize) + 1, 16 + i as u64 % 16);
         i += 1;
     }
 }
@@ -80,7 +75,7 @@ fn put_entries(buf: &mut [u8], at: usize, n: u8)
 {
     let mut i: u8 = 0;
     while i < n {
-        put(buf, at + 3 * (i as usize), i);
+        put(buf, at + 3 * (i as usize), i as u64);
         put(buf, at + 3 * (i as usize) + 1, 0);
         put(buf, at + 3 * (i as usize) + 2, 0);
         i += 1;
@@ -91,10 +86,10 @@ fn put_step(buf: &mut [u8], s: Shape, k: u8) {
     let at = step_at(s, k);
     let n = s.entries as usize;
     put_pair(buf, k as usize + 2, at, width(s));
-    put(buf, at, s.entries);
+    put(buf, at, s.entries as u64);
     put_entries(buf, at + 1, s.entries);
     put(buf, at + 1 + 3 * n, 0);
-    put(buf, at + 2 + 3 * n, s.bonds);
+    put(buf, at + 2 + 3 * n, s.bonds as u64);
     put_bonds(buf, at + 3 + 3 * n, s.bonds);
 }
 
@@ -109,9 +104,9 @@ fn put_steps(buf: &mut [u8], s: Shape) {
 
 fn put_header(buf: &mut [u8], s: Shape) {
     put(buf, 0, 1);
-    put(buf, 1, s.places);
-    put(buf, 2, s.parts);
-    put(buf, 3, s.steps);
+    put(buf, 1, s.places as u64);
+    put(buf, 2, s.parts as u64);
+    put(buf, 3, s.steps as u64);
 }
 
 // The start places are 0, as the buffer is.
@@ -131,7 +126,7 @@ fn put_sheet(buf: &mut [u8], s: Shape) {
 fn run(c: Count, s: Shape, more: u8, at: u8, value: u8, expected: u8) -> Count {
     let mut buf = [0u8; 33000];
     put_sheet(&mut buf, s);
-    put(&mut buf, at as usize, value);
+    put(&mut buf, at as usize, value as u64);
     let n = step_at(s, s.steps) + more as usize;
     judged(c, &buf, n, expected)
 }

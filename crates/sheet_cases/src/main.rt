@@ -6,15 +6,11 @@ mod large;
 mod small;
 mod transitions;
 
+use case_tools::print::print_run;
 use count::Count;
 
 fn report(name: &[u8], c: Count) {
-    io::write_all(1, name);
-    io::write_all(1, b": ");
-    io::print_decimal(1, c.run as u64);
-    io::write_all(1, b" run, ");
-    io::print_decimal(1, c.differed as u64);
-    io::write_all(1, b" differed\n");
+    print_run(name, c.run as u64, c.differed as u64);
 }
 
 fn main() {

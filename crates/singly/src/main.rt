@@ -2,29 +2,16 @@
 // each time. Reads what the exam program reads, up to 65,536 bytes, and prints the sum of the keys and the tally.
 // It is measured by bench/run; what stdout has was printed by the plain Rust program there.
 ghost use Prim.Native.Nat.{_≤_};
+use case_tools::print::print_tally;
 use format::word_at;
 use runs::command_at;
 use session::command_with;
 use session_start::start;
 use tally::Tally;
 
-fn print_word(x: u16) {
-    io::print_decimal(1, x as u64);
-}
-
 fn print_sum(x: u32) {
     io::write_all(1, b"keys ");
     io::print_decimal(1, x as u64);
-    io::write_all(1, b"\n");
-}
-
-fn print_tally(t: Tally) {
-    io::write_all(1, b"tally ");
-    print_word(t.fired);
-    io::write_all(1, b" ");
-    print_word(t.undone);
-    io::write_all(1, b" ");
-    print_word(t.refused);
     io::write_all(1, b"\n");
 }
 
@@ -62,7 +49,7 @@ fn run_singly(sheet: &[u8], commands: &[u8]) {
         at += 3;
     }
     print_sum(sum);
-    print_tally(counts);
+    print_tally(counts.fired, counts.undone, counts.refused);
 }
 
 fn parted(input: &[u8]) {

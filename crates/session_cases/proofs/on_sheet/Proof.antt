@@ -29,8 +29,8 @@ loop-less c = search needs
 loop-again : tie.Need-loop-again Inv-loop μ-loop
 loop-again c = search needs
 
-print-counts-requires : tie.Need-print-counts-requires Inv-loop μ-loop
-print-counts-requires c κs = search needs
+print-group-requires : tie.Need-print-group-requires Inv-loop μ-loop
+print-group-requires c κs = search needs
 
 together-requires : tie.Need-together-requires Inv-loop μ-loop
 together-requires c κs = search needs
@@ -50,6 +50,6 @@ on-sheet-spec =
     add-s
     loop-less
     loop-again
-    print-counts-requires
+    print-group-requires
     together-requires
     returns)

@@ -6,10 +6,10 @@ use Rattle.session_cases.proofs.sessions.Statement.{statement}
 use Rattle.session_cases.proofs.sessions.Tie as tie
 
 abbrev Inv-loop : tie.InvT-loop
-Inv-loop p count n room c₀ s₀ c s = s ≤ count
+Inv-loop g n c₀ s₀ c s = s ≤ n
 
 abbrev μ-loop : tie.MeasureT-loop
-μ-loop p count n room c₀ s₀ c s = count - s
+μ-loop g n c₀ s₀ c s = n - s
 
 none-requires : tie.Need-none-requires Inv-loop μ-loop
 none-requires c κs = search needs
@@ -17,11 +17,8 @@ none-requires c κs = search needs
 loop-holds : tie.Need-loop-holds Inv-loop μ-loop
 loop-holds c = search needs
 
-varied-requires : tie.Need-varied-requires Inv-loop μ-loop
-varied-requires c κs = search needs
-
-session-on-requires : tie.Need-session-on-requires Inv-loop μ-loop
-session-on-requires c κs = search needs
+session-requires : tie.Need-session-requires Inv-loop μ-loop
+session-requires c κs = search needs
 
 add-s : tie.Need-add-s Inv-loop μ-loop
 add-s c = search needs
@@ -43,8 +40,7 @@ sessions-spec =
     μ-loop
     none-requires
     loop-holds
-    varied-requires
-    session-on-requires
+    session-requires
     add-s
     loop-less
     loop-again

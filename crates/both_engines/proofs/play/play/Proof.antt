@@ -2,16 +2,16 @@
 -- Assumes nothing.
 use borrow.Author.Needs.{needs}
 use mathlib.Core.Path.{_≡_}
-use Prim.Native.Nat.{_-_, _≤_}
+use Prim.Native.Nat.{_-_, _<_, _≤_}
 use lib.ListN.{length}
 use Rattle.both_engines.proofs.play.play.Statement.{statement}
 use Rattle.both_engines.proofs.play.play.Tie as tie
 
 abbrev Inv-loop : tie.InvT-loop
-Inv-loop sheet seed n room m₀ h₀ p₀ i₀ m h p i = (i ≤ n) × (length m ≡ length m₀) × (length h ≡ length h₀)
+Inv-loop sheet w m₀ h₀ n p₀ i₀ m h p i = (i ≤ n) × (length m ≡ length m₀) × (length h ≡ length h₀) × (n < 65536)
 
 abbrev μ-loop : tie.MeasureT-loop
-μ-loop sheet seed n room m₀ h₀ p₀ i₀ m h p i = n - i
+μ-loop sheet w m₀ h₀ n p₀ i₀ m h p i = n - i
 
 loop-holds : tie.Need-loop-holds Inv-loop μ-loop
 loop-holds c = search needs

@@ -1,4 +1,4 @@
--- `sheet_cases::edited::laid` meets its contract.
+-- `sheet_cases::edited::laid` meets its contract. The counter stays within its bound.
 -- Assumes nothing.
 use borrow.Author.Needs.{needs}
 use Prim.Native.Nat.{_-_, _≤_}
@@ -14,8 +14,8 @@ abbrev μ-loop : tie.MeasureT-loop
 loop-holds : tie.Need-loop-holds Inv-loop μ-loop
 loop-holds c = search needs
 
-byte-at-requires : tie.Need-byte-at-requires Inv-loop μ-loop
-byte-at-requires c κs = search needs
+byte-requires : tie.Need-byte-requires Inv-loop μ-loop
+byte-requires c κs = search needs
 
 array-write-bytes : tie.Need-array-write-bytes Inv-loop μ-loop
 array-write-bytes c = search needs
@@ -39,7 +39,7 @@ laid-spec =
     Inv-loop
     μ-loop
     loop-holds
-    byte-at-requires
+    byte-requires
     array-write-bytes
     add-i
     loop-less

@@ -1,4 +1,4 @@
--- `sheet_cases::large::put_bonds` meets its contract.
+-- `sheet_cases::large::put_bonds` meets its contract. The counter stays within its bound, and lent slices keep their length.
 -- Assumes nothing.
 use borrow.Author.Needs.{needs}
 use mathlib.Core.Path.{_≡_}
@@ -25,11 +25,14 @@ mul-put c = search needs
 add-put : tie.Need-add-put Inv-loop μ-loop
 add-put c = search needs
 
+cast-put-2 : tie.Need-cast-put-2 Inv-loop μ-loop
+cast-put-2 c = search needs
+
 put-requires : tie.Need-put-requires Inv-loop μ-loop
 put-requires c κs = search needs
 
-cast-put-2 : tie.Need-cast-put-2 Inv-loop μ-loop
-cast-put-2 c = search needs
+cast-put-3 : tie.Need-cast-put-3 Inv-loop μ-loop
+cast-put-3 c = search needs
 
 mul-put-2 : tie.Need-mul-put-2 Inv-loop μ-loop
 mul-put-2 c = search needs
@@ -39,6 +42,9 @@ add-put-2 c = search needs
 
 add-put-3 : tie.Need-add-put-3 Inv-loop μ-loop
 add-put-3 c = search needs
+
+cast-put-4 : tie.Need-cast-put-4 Inv-loop μ-loop
+cast-put-4 c = search needs
 
 add-put-4 : tie.Need-add-put-4 Inv-loop μ-loop
 add-put-4 c = search needs
@@ -71,11 +77,13 @@ put-bonds-spec =
     cast-put
     mul-put
     add-put
-    put-requires
     cast-put-2
+    put-requires
+    cast-put-3
     mul-put-2
     add-put-2
     add-put-3
+    cast-put-4
     add-put-4
     put-requires-2
     add-i

@@ -1,9 +1,9 @@
--- `both_engines::compare::sums` meets its contract. The counter stays within its bound.
+-- `both_engines::counts::sums` meets its contract. The counter stays within its bound.
 -- Assumes nothing.
 use borrow.Author.Needs.{needs}
 use Prim.Native.Nat.{_-_, _≤_}
-use Rattle.both_engines.proofs.compare.sums.Statement.{statement}
-use Rattle.both_engines.proofs.compare.sums.Tie as tie
+use Rattle.both_engines.proofs.counts.sums.Statement.{statement}
+use Rattle.both_engines.proofs.counts.sums.Tie as tie
 
 abbrev Inv-loop : tie.InvT-loop
 Inv-loop a b all₀ i₀ all i = i ≤ 32

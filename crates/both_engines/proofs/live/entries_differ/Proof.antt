@@ -1,0 +1,55 @@
+-- `both_engines::live::entries_differ` meets its contract. The counter stays within its bound.
+-- Assumes nothing.
+use borrow.Author.Needs.{needs}
+use Prim.Native.Nat.{_-_, _≤_}
+use Rattle.both_engines.proofs.live.entries_differ.Statement.{statement}
+use Rattle.both_engines.proofs.live.entries_differ.Tie as tie
+
+abbrev Inv-loop : tie.InvT-loop
+Inv-loop h firings all₀ slot₀ i₀ all slot i = i ≤ 256
+
+abbrev μ-loop : tie.MeasureT-loop
+μ-loop h firings all₀ slot₀ i₀ all slot i = 256 - i
+
+loop-holds : tie.Need-loop-holds Inv-loop μ-loop
+loop-holds c = search needs
+
+following-requires : tie.Need-following-requires Inv-loop μ-loop
+following-requires c κs = search needs
+
+mul-f : tie.Need-mul-f Inv-loop μ-loop
+mul-f c = search needs
+
+array-copy-out-f : tie.Need-array-copy-out-f Inv-loop μ-loop
+array-copy-out-f c = search needs
+
+entry-differs-requires : tie.Need-entry-differs-requires Inv-loop μ-loop
+entry-differs-requires c κs = search needs
+
+add-i : tie.Need-add-i Inv-loop μ-loop
+add-i c = search needs
+
+loop-less : tie.Need-loop-less Inv-loop μ-loop
+loop-less c = search needs
+
+loop-again : tie.Need-loop-again Inv-loop μ-loop
+loop-again c = search needs
+
+returns : tie.Need-returns Inv-loop μ-loop
+returns c = search needs
+
+pub entries-differ-spec : {M : Type 1} → statement M
+entries-differ-spec =
+    tie.close
+    (tie.spec
+    Inv-loop
+    μ-loop
+    loop-holds
+    following-requires
+    mul-f
+    array-copy-out-f
+    entry-differs-requires
+    add-i
+    loop-less
+    loop-again
+    returns)

@@ -1,0 +1,38 @@
+-- `oracle::history::live` meets its contract. The counter stays within its bound.
+-- Assumes nothing.
+use borrow.Author.Needs.{needs}
+use Prim.Native.Nat.{_-_, _≤_}
+use Rattle.oracle.proofs.history.live.Statement.{statement}
+use Rattle.oracle.proofs.history.live.Tie as tie
+
+abbrev Inv-loop : tie.InvT-loop
+Inv-loop h n₀ s₀ n s = (s ≤ 256) × (n ≤ s)
+
+abbrev μ-loop : tie.MeasureT-loop
+μ-loop h n₀ s₀ n s = 256 - s
+
+loop-holds : tie.Need-loop-holds Inv-loop μ-loop
+loop-holds c = search needs
+
+taken-requires : tie.Need-taken-requires Inv-loop μ-loop
+taken-requires c κs = search needs
+
+add-n : tie.Need-add-n Inv-loop μ-loop
+add-n c = search needs
+
+add-s : tie.Need-add-s Inv-loop μ-loop
+add-s c = search needs
+
+loop-less : tie.Need-loop-less Inv-loop μ-loop
+loop-less c = search needs
+
+loop-again : tie.Need-loop-again Inv-loop μ-loop
+loop-again c = search needs
+
+returns : tie.Need-returns Inv-loop μ-loop
+returns c = search needs
+
+pub live-spec : {M : Type 1} → statement M
+live-spec =
+    tie.close
+    (tie.spec Inv-loop μ-loop loop-holds taken-requires add-n add-s loop-less loop-again returns)
