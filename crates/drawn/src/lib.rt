@@ -49,7 +49,7 @@ fn suits(h: &[u64], key: u16, free: bool) -> bool {
         return false;
     }
     if free {
-        oracle::hold(h, key) == 0
+        oracle::undo_hindered(h, key) == 0
     } else {
         true
     }

@@ -164,7 +164,7 @@ fn has_dependents(h: &[u64], slot: usize) -> bool {
 
 // Definition 11 for the occurrence of a key, 11(1) aside: the first of 19 and 20 that holds, or 0. It has to be the latest
 // of its transition; an earlier one has a later one depend on it.
-pub fn hold(h: &[u64], key: u16) -> u8 {
+pub fn undo_hindered(h: &[u64], key: u16) -> u8 {
     let slot = slot_of(h, key);
     if key == 0 {
         return 19;

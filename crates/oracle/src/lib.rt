@@ -15,7 +15,6 @@ use forward::hindrance;
 use forward::used;
 use history::forget;
 pub use history::highest;
-pub use history::hold;
 pub use history::key_at;
 pub use history::live;
 pub use history::moved_at;
@@ -24,6 +23,7 @@ use history::record;
 pub use history::slot_after;
 pub use history::slot_of;
 pub use history::transition_at;
+pub use history::undo_hindered;
 use oracle_net::labels::lay_base;
 use oracle_net::labels::lay_bonds;
 use oracle_net::labels::lay_incoming;
@@ -152,7 +152,7 @@ fn undo_last(sheet: &[u8], m: &mut [u64], h: &mut [u64]) -> Reply {
 
 // Kind 3, Definition 11.
 fn undo(sheet: &[u8], m: &mut [u64], h: &mut [u64], key: u16) -> Reply {
-    let number = hold(h, key);
+    let number = undo_hindered(h, key);
     if number != 0 {
         return refused(number);
     }
