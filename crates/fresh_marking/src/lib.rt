@@ -39,7 +39,9 @@ struct Ends {
 // The ends of the start couplings, and zeros after them.
 fn start_ends(sheet: &[u8]) -> Ends
     requires { ⌜ startBondCount (now sheet) ≤ maxBonds ⌝ }
-    ensures { λ r. ⌜ (r .lo ≡ padded maxBonds (los (table (startBondCount (now (sheet .entry))) (nthStartBond (now (sheet .entry)))))) × (r .hi ≡ padded maxBonds (his (table (startBondCount (now (sheet .entry))) (nthStartBond (now (sheet .entry)))))) ⌝ }
+    ensures { λ r. ⌜
+        (r .lo ≡ padded maxBonds (los (table (startBondCount (now (sheet .entry))) (nthStartBond (now (sheet .entry))))))
+        × (r .hi ≡ padded maxBonds (his (table (startBondCount (now (sheet .entry))) (nthStartBond (now (sheet .entry)))))) ⌝ }
 {
     let count = start_bond_count(sheet);
     let mut lo = [0u8; MAX_BONDS];

@@ -33,7 +33,9 @@ fn side(back: bool, e: Entry) -> Place
 // The groups that the entries hit. From the last entry to the first, so that the first of a group is stored last.
 // The callers' entries are of bases of the net, and labels are bases.
 pub fn grouped(step: &[u8], labels: [Base; MAX_BASES], back: bool) -> Groups
-    requires { ⌜ ((i : ℕ) → i < entryCount (now step) → (nthEntry (now step) i .base < maxBases) × (labelIn labels (nthEntry (now step) i .base) < maxBases)) ⌝ }
+    requires { ⌜
+        ((i : ℕ) → i < entryCount (now step)
+        → (nthEntry (now step) i .base < maxBases) × (labelIn labels (nthEntry (now step) i .base) < maxBases)) ⌝ }
     ensures { λ r. ⌜ r ≡ groupsOf (labelIn labels) back (arcsIn (now (step .entry)) .entries) ⌝ }
 {
     let mut hit = [false; MAX_BASES];
@@ -97,8 +99,12 @@ pub fn sent_places(
 
 // Whether some entry gives another place than the first of its group.
 pub fn torn(step: &[u8], labels: [Base; MAX_BASES], g: Groups) -> bool
-    requires { ⌜ ((i : ℕ) → i < entryCount (now step) → (nthEntry (now step) i .base < maxBases) × (labelIn labels (nthEntry (now step) i .base) < maxBases)) ⌝ }
-    ensures { λ r. ⌜ r ≡ any (λ (e : Entry). not (eqb (e .to) (getD (g .place) (labelIn labels (e .base)) 0))) (arcsIn (now (step .entry)) .entries) ⌝ }
+    requires { ⌜
+        ((i : ℕ) → i < entryCount (now step)
+        → (nthEntry (now step) i .base < maxBases) × (labelIn labels (nthEntry (now step) i .base) < maxBases)) ⌝ }
+    ensures { λ r. ⌜
+        r ≡ any (λ (e : Entry). not (eqb (e .to) (getD (g .place) (labelIn labels (e .base)) 0)))
+        (arcsIn (now (step .entry)) .entries) ⌝ }
 {
     let n = entry_count(step);
     let mut found = false;

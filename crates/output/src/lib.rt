@@ -72,7 +72,9 @@ fn commands_in<'a>(input: &'a [u8]) -> &'a [u8]
 
 // The first n answers, numbered from 1. `put_session` sees to the room and to the values.
 fn put_answers(buf: &mut [u8], words: &[u8], values: &[u16], n: usize) -> usize
-    requires { ⌜ (minLine * n ≤ length (now buf)) × (n ≤ maxCommands) × (n ≤ length (now words)) × (n ≤ length (now values)) × LowValues (now words) (now values) n ⌝ }
+    requires { ⌜
+        (minLine * n ≤ length (now buf)) × (n ≤ maxCommands) × (n ≤ length (now words)) × (n ≤ length (now values))
+        × LowValues (now words) (now values) n ⌝ }
     ensures { λ r. ⌜ Filled (linesUpto (now (words .entry)) (now (values .entry)) n) (now (buf .entry)) r (now (buf .exit)) ⌝ }
     ensures { λ r. ⌜ r ≤ minLine * n ⌝ }
 {
@@ -98,13 +100,6 @@ fn widened(places: [Place; MAX_BASES]) -> [u16; MAX_BASES]
     wide
 }
 
-// The key of a firing, as a number.
-fn key_of(f: Firing) -> u16
-    ensures { λ r. ⌜ r ≡ f .key .0 ⌝ }
-{
-    f.key.0
-}
-
 // The keys of the firings.
 fn keys_of(firings: [Firing; MAX_LIVE]) -> [u16; MAX_LIVE]
     ensures { λ r. ⌜ r ≡ keysIn firings maxLive ⌝ }
@@ -113,7 +108,7 @@ fn keys_of(firings: [Firing; MAX_LIVE]) -> [u16; MAX_LIVE]
     let mut i = 0;
     while i < MAX_LIVE {
         let f = firings[i];
-        keys[i] = key_of(f);
+        keys[i] = f.key.0;
         i += 1;
     }
     keys
@@ -173,8 +168,12 @@ fn value_room() -> [u16; MAX_COMMANDS]
 
 // A session on an accepted sheet, from a fresh record and a tally of zeros. `write_output` has started it.
 fn put_session(buf: &mut [u8], sheet: &[u8], commands: &[u8], r: Record) -> usize
-    requires { ⌜ (maxOutput ≤ length (now buf)) × (length (now commands) ≤ 3 * maxCommands) × (clear (sheetChecks (now sheet)) ≡ true) × (r ≡ freshOf (now sheet)) ⌝ }
-    ensures { λ r. ⌜ Filled (sessionText (netOf (now (sheet .entry))) (commandsIn (now (commands .entry)))) (now (buf .entry)) r (now (buf .exit)) ⌝ }
+    requires { ⌜
+        (maxOutput ≤ length (now buf)) × (length (now commands) ≤ 3 * maxCommands)
+        × (clear (sheetChecks (now sheet)) ≡ true) × (r ≡ freshOf (now sheet)) ⌝ }
+    ensures { λ r. ⌜
+        Filled (sessionText (netOf (now (sheet .entry))) (commandsIn (now (commands .entry))))
+        (now (buf .entry)) r (now (buf .exit)) ⌝ }
     ensures { λ r. ⌜ r ≤ maxOutput ⌝ }
 {
     let mut words = word_room();

@@ -68,7 +68,9 @@ pub fn run(
     values: &mut [u16],
 ) -> Ran
     requires { ⌜ Sound (now sheet) r × (howMany (now commands) ≤ length (now words)) × (howMany (now commands) ≤ length (now values)) ⌝ }
-    ensures { λ x. ⌜ RunGives (ranOf (now (sheet .entry)) (now (commands .entry)) r t) (now (words .entry)) (now (values .entry)) (x .session) (x .tally) (now (words .exit)) (now (values .exit)) ⌝ }
+    ensures { λ x. ⌜
+        RunGives (ranOf (now (sheet .entry)) (now (commands .entry)) r t)
+        (now (words .entry)) (now (values .entry)) (x .session) (x .tally) (now (words .exit)) (now (values .exit)) ⌝ }
 {
     let mut session = r;
     let mut counts = t;

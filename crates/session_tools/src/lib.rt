@@ -1,10 +1,12 @@
 // What the programs of cases share about our engine's records and answers.
-// The answer's enum is taken apart here and nowhere else in the cases.
+// An answer goes as the word and the value that the engine says it with.
 use net::Key;
 use session::Answer;
 use session::Counted;
 use session::Outcome;
 use session::Record;
+use session::value_of;
+use session::word_of;
 use tally::Tally;
 
 // An answer as a pair: word 0 fired, 1 undone, 2 refused; the value is the key, or the number of document 01's list.
@@ -19,18 +21,10 @@ pub const UNDONE: u8 = 1;
 
 pub const REFUSED: u8 = 2;
 
-fn pair(word: u8, value: u16) -> Said {
-    Said {
-        word: word,
-        value: value,
-    }
-}
-
 pub fn said_of(a: Answer, key: Key) -> Said {
-    match a {
-        Answer::Fired => pair(FIRED, key.0),
-        Answer::Undone => pair(UNDONE, key.0),
-        Answer::Refused(n) => pair(REFUSED, n as u16),
+    Said {
+        word: word_of(a),
+        value: value_of(a, key),
     }
 }
 

@@ -86,7 +86,9 @@ fn has_partner(b: &[u8], out: bool, hi: Base, at: Place) -> bool
 
 // Whether e is the entry of the lower base of x, and one of the higher base agrees with it.
 fn starts(b: &[u8], out: bool, x: Bond, e: Entry) -> bool
-    ensures { λ r. ⌜ r ≡ (eqb (e .base) (x .lo) && any (λ d. eqb (d .base) (x .hi) && eqb (sideOf out e) (sideOf out d)) (arcsIn (now (b .entry)) .entries)) ⌝ }
+    ensures { λ r. ⌜
+        r ≡ (eqb (e .base) (x .lo)
+        && any (λ d. eqb (d .base) (x .hi) && eqb (sideOf out e) (sideOf out d)) (arcsIn (now (b .entry)) .entries)) ⌝ }
 {
     if e.base != x.lo {
         return false;

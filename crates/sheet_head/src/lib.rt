@@ -167,7 +167,9 @@ fn start_bond_fits(sheet: &[u8], b: Bond) -> bool
 }
 
 fn start_bonds_fit(sheet: &[u8]) -> bool
-    ensures { λ r. ⌜ r ≡ all (startBondRule (basesOf (now (sheet .entry))) (startMarking (now (sheet .entry)))) (startMarking (now (sheet .entry)) .bonds) ⌝ }
+    ensures { λ r. ⌜
+        r ≡ all (startBondRule (basesOf (now (sheet .entry))) (startMarking (now (sheet .entry))))
+        (startMarking (now (sheet .entry)) .bonds) ⌝ }
 {
     let n = start_bond_count(sheet);
     let mut i: u16 = 0;

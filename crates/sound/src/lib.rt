@@ -33,7 +33,9 @@ use steps::moved_by;
 // Callers have an accepted sheet and hold a good marking of it.
 fn line_accepted(sheet: &[u8], m: Marking, f: Firing) -> bool
     requires { ⌜ Placed (now sheet) m ⌝ }
-    ensures { λ r. ⌜ r ≡ accepts (netOf (now (sheet .entry))) (markingOf (basesOf (now (sheet .entry))) m) (asLine (basesOf (now (sheet .entry))) f) ⌝ }
+    ensures { λ r. ⌜
+        r ≡ accepts (netOf (now (sheet .entry))) (markingOf (basesOf (now (sheet .entry))) m)
+        (asLine (basesOf (now (sheet .entry))) f) ⌝ }
 {
     let n = base_count(sheet) as usize;
     let t = f.transition_of();
@@ -49,7 +51,9 @@ fn line_accepted(sheet: &[u8], m: Marking, f: Firing) -> bool
 // Callers have seen that both markings are in their form and that there are no more firings than the limit.
 fn runs_to(sheet: &[u8], m: Marking, firings: [Firing; MAX_LIVE], live: usize, end: Marking) -> bool
     requires { ⌜ Placed (now sheet) m × (live ≤ maxLive) × (end .count ≤ maxBonds) ⌝ }
-    ensures { λ r. ⌜ r ≡ replays (netOf (now (sheet .entry))) (markingOf (basesOf (now (sheet .entry))) m) (linesIn (basesOf (now (sheet .entry))) live firings) (markingOf (basesOf (now (sheet .entry))) end) ⌝ }
+    ensures { λ r. ⌜
+        r ≡ replays (netOf (now (sheet .entry))) (markingOf (basesOf (now (sheet .entry))) m)
+        (linesIn (basesOf (now (sheet .entry))) live firings) (markingOf (basesOf (now (sheet .entry))) end) ⌝ }
 {
     let mut now_at = m;
     let mut i = 0;

@@ -53,7 +53,9 @@ pub fn enable_refusal(sheet: &[u8], m: Marking, t: Transition) -> u8
 // The bases that firing the transition moves. Callers have a transition that is on the sheet, here and below.
 pub fn moved_by(sheet: &[u8], m: Marking, t: Transition) -> [bool; MAX_BASES]
     requires { ⌜ Placed (now sheet) m × (t .0 < transitionsOf (now sheet)) ⌝ }
-    ensures { λ r. ⌜ r ≡ flags (moved (basesOf (now (sheet .entry))) (arcsOf (netOf (now (sheet .entry))) t) (markingOf (basesOf (now (sheet .entry))) m)) ⌝ }
+    ensures { λ r. ⌜
+        r ≡ flags (moved (basesOf (now (sheet .entry))) (arcsOf (netOf (now (sheet .entry))) t)
+        (markingOf (basesOf (now (sheet .entry))) m)) ⌝ }
 {
     let n = base_count(sheet) as usize;
     let step = transition_bytes(sheet, t);
@@ -63,7 +65,9 @@ pub fn moved_by(sheet: &[u8], m: Marking, t: Transition) -> [bool; MAX_BASES]
 // The marking after the transition is fired.
 pub fn fired(sheet: &[u8], m: Marking, t: Transition) -> Marking
     requires { ⌜ Placed (now sheet) m × (t .0 < transitionsOf (now sheet)) ⌝ }
-    ensures { λ r. ⌜ r ≡ laid (fire (basesOf (now (sheet .entry))) (arcsOf (netOf (now (sheet .entry))) t) (markingOf (basesOf (now (sheet .entry))) m)) ⌝ }
+    ensures { λ r. ⌜
+        r ≡ laid (fire (basesOf (now (sheet .entry))) (arcsOf (netOf (now (sheet .entry))) t)
+        (markingOf (basesOf (now (sheet .entry))) m)) ⌝ }
 {
     let n = base_count(sheet) as usize;
     let step = transition_bytes(sheet, t);
@@ -73,7 +77,9 @@ pub fn fired(sheet: &[u8], m: Marking, t: Transition) -> Marking
 // The marking after the firing of the transition that moved those bases is taken back.
 pub fn undone(sheet: &[u8], m: Marking, t: Transition, moved: [bool; MAX_BASES]) -> Marking
     requires { ⌜ Placed (now sheet) m × (t .0 < transitionsOf (now sheet)) ⌝ }
-    ensures { λ r. ⌜ r ≡ laid (undo (basesOf (now (sheet .entry))) (arcsOf (netOf (now (sheet .entry))) t) moved (markingOf (basesOf (now (sheet .entry))) m)) ⌝ }
+    ensures { λ r. ⌜
+        r ≡ laid (undo (basesOf (now (sheet .entry))) (arcsOf (netOf (now (sheet .entry))) t) moved
+        (markingOf (basesOf (now (sheet .entry))) m)) ⌝ }
 {
     let n = base_count(sheet) as usize;
     let step = transition_bytes(sheet, t);

@@ -28,9 +28,6 @@ mul-f c = search needs
 array-copy-out-f : tie.Need-array-copy-out-f Inv-loop μ-loop
 array-copy-out-f c = search needs
 
-key-of-requires : tie.Need-key-of-requires Inv-loop μ-loop
-key-of-requires c κs = search needs
-
 mul-keys : tie.Need-mul-keys Inv-loop μ-loop
 mul-keys c = search needs
 
@@ -44,7 +41,7 @@ loop-less : tie.Need-loop-less Inv-loop μ-loop
 loop-less c = search needs
 
 loop-again : tie.Need-loop-again Inv-loop μ-loop
-loop-again c = (search needs, search needs, fill-turn (λ k. getD (c .before .before .before .before .args .t1) k past .key .0) (c .before .before .before .loop .i) _ _ 0 _ (omega arith) (c .key-of .ensures) (c .before .before .before .loop .inv .2))
+loop-again c = (search needs, search needs, fill-turn (λ k. getD (c .before .before .before .args .t1) k past .key .0) (c .before .before .loop .i) _ _ 0 _ (omega arith) refl (c .before .before .loop .inv .2))
 
 returns : tie.Need-returns Inv-loop μ-loop
 returns c = fill-end (λ k. getD (c .before .before .args .t1) k past .key .0) (c .before .loop .i) maxLive _ _ (c .before .loop .inv .1) (omega arith) (c .before .loop .inv .2)
@@ -58,7 +55,6 @@ keys-of-spec =
     loop-holds
     mul-f
     array-copy-out-f
-    key-of-requires
     mul-keys
     array-write-keys
     add-i
