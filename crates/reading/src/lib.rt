@@ -1,7 +1,7 @@
 // Reading standard input as far as the output looks at it: two bytes, the sheet that they name, and behind an accepted sheet
 // the commands. So a refused sheet is answered when it has been read, and the end of the input is asked for once.
 ghost use mathlib.Core.Path.{_≡_};
-ghost use mathlib.Core.Bool.{true};
+ghost use mathlib.Core.Bool.{true, false};
 ghost use Prim.Native.Nat.{_≤_, _-_};
 ghost use lib.ListN.{length, take};
 ghost use Rattle.output.specs.Input.{lookedAt, maxInput};
@@ -48,7 +48,9 @@ fn read_part(room: &mut [u8], at: usize, to: usize) -> Part
 // sees to the two.
 fn read_to(room: &mut [u8], from: usize, to: usize) -> Got
     requires { ⌜ (from ≤ to) × (to ≤ length (now room)) ⌝ }
-    ensures { λ r. ⌜ (r .n ≤ to) × (r .full ≡ true → r .n ≡ to) × (take from (now (room .exit)) ≡ take from (now (room .entry))) ⌝ }
+    ensures { λ r. ⌜
+        (r .n ≤ to) × (r .full ≡ true → (r .n ≡ to) × (r .failed ≡ false))
+        × (take from (now (room .exit)) ≡ take from (now (room .entry))) ⌝ }
 {
     let mut at = from;
     while at < to {
@@ -74,7 +76,8 @@ fn read_to(room: &mut [u8], from: usize, to: usize) -> Got
 pub fn read_input(room: &mut [u8]) -> Got
     requires { ⌜ maxInput ≤ length (now room) ⌝ }
     ensures { λ r. ⌜ r .n ≤ length (now (room .entry)) ⌝ }
-    ensures { λ r. ⌜ (r .full ≡ true → r .n ≡ lookedAt (take (r .n) (now (room .exit)))) ⌝ }
+    ensures { λ r. ⌜
+        (r .full ≡ true → (r .n ≡ lookedAt (take (r .n) (now (room .exit)))) × (r .failed ≡ false)) ⌝ }
 {
     let first = read_to(room, 0, 2);
     if !first.full {

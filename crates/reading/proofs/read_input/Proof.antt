@@ -59,9 +59,9 @@ returns-3 c =
     let word = c .before .before .before .before .before .before .before .before .before .before .before .word-at .ensures .0 in
     let second = c .before .before .before .before .before .before .before .before .before .read-to2 in
     let number = c .before .sheet-number .ensures ∙ c .before .before .check-sheet .ensures .1 in
-    let all = second .ensures .1 (was-full _ (c .before .before .before .before .before .if2 .left)) in
+    let (all, sound) = second .ensures .1 (was-full _ (c .before .before .before .before .before .if2 .left)) in
     let looked = read-refused _ (c .before .before .before .before .before .before .before .before .before .before .before .before .before .before .before .before .before .read-to .last .0) (second .last .0) word (second .ensures .2) _ number (c .if3 .taken) in
-    (search needs, λ _. rw all looked)
+    (search needs, λ _. (rw all looked, sound))
 
 mul-read-to : tie.Need-mul-read-to
 mul-read-to c = search needs
@@ -82,7 +82,7 @@ returns-4 c =
     let third = c .before .before .read-to3 in
     let number = c .before .before .before .before .before .sheet-number .ensures ∙ c .before .before .before .before .before .before .check-sheet .ensures .1 in
     let looked = read-accepted _ (c .before .before .before .before .before .before .before .before .before .before .before .before .before .before .before .before .before .before .before .before .before .read-to .last .0) (second .last .0) word (second .ensures .2) _ number (c .before .before .before .before .if3 .left) (third .last .0) (third .ensures .2) in
-    (omega (arith, third .ensures .0, c .before .before .before .before .before .before .before .before .before .before .before .before .before .before .before .word-at .ensures .1, c .before .before .before .before .before .before .before .before .before .before .before .before .before .before .before .before .before .before .before .before .before .before .before .before .pre), λ e. rw (third .ensures .1 e) looked)
+    (omega (arith, third .ensures .0, c .before .before .before .before .before .before .before .before .before .before .before .before .before .before .before .word-at .ensures .1, c .before .before .before .before .before .before .before .before .before .before .before .before .before .before .before .before .before .before .before .before .before .before .before .before .pre), λ e. (rw (third .ensures .1 e .0) looked, third .ensures .1 e .1))
 
 pub read-input-spec : {M : Type 1} → statement M
 read-input-spec =

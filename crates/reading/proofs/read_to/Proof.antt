@@ -50,7 +50,7 @@ same-length-2 c = search needs
 returns-2 : tie.Need-returns-2 Inv-loop μ-loop
 returns-2 c =
     let at : tie.At-loop Inv-loop μ-loop = c .before in
-    (search needs, (λ _. omega arith), at .loop .inv .4)
+    (search needs, (λ _. (omega arith, refl)), at .loop .inv .4)
 
 pub read-to-spec : {M : Type 1} → statement M
 read-to-spec =
