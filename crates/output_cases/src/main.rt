@@ -96,16 +96,20 @@ fn printed(input: &[u8], all: Count) -> Count {
     together(all, c)
 }
 
-// Document 01's sheets, and small ones.
-fn small(others: Count) -> Count {
+// Document 01's sheets.
+fn on_samples(others: Count) -> Count {
     let a = sheet_a();
     let b = sheet_b();
+    let t = on_sample(b"sheet A", &a, others);
+    on_sample(b"sheet B", &b, t)
+}
+
+// Small generated sheets.
+fn small(others: Count) -> Count {
     let dense = with(of(2, 8, 10, TOGETHER), 8, 2, 1, 3);
     let carried = with(of(3, 8, 8, RING), 1, 6, 0, 1);
     let forking = with(of(2, 6, 8, FORK), 4, 5, 0, 3);
-    let mut t = on_sample(b"sheet A", &a, others);
-    t = on_sample(b"sheet B", &b, t);
-    t = group(b"tiny", of(3, 4, 4, APART), 40, 60, 8, t);
+    let mut t = group(b"tiny", of(3, 4, 4, APART), 40, 60, 8, others);
     t = group(b"dense", dense, 40, 60, 8, t);
     t = group(b"carried", carried, 40, 60, 8, t);
     t = group(b"unrelated", of(3, 12, 18, GROUPS), 40, 120, 12, t);
@@ -123,6 +127,6 @@ fn large(others: Count) -> Count {
 
 fn main() {
     let input = printed_input();
-    let t = large(small(printed(&input, none())));
+    let t = large(small(on_samples(printed(&input, none()))));
     print_count(b"bytes of output:", t.bytes);
 }
