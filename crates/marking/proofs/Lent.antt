@@ -15,7 +15,7 @@ use Rattle.marking.specs.Held.{bonded}
 use Rattle.marking.proofs.Padding.{drop-replicate, length-padded}
 
 -- behind n elements there are zeros
-behind : (n N : ℕ) (l a : List ℕ) → length l ≡ n → a ≡ padded N l → drop n a ≡ replicate (N - n) 0
+pub behind : (n N : ℕ) (l a : List ℕ) → length l ≡ n → a ≡ padded N l → drop n a ≡ replicate (N - n) 0
 behind n N l a s e = ap (drop n) e ∙ drop-at l (replicate (N - length l) 0) n s ∙ ap (λ (k : ℕ). replicate (N - k) 0) s
 
 -- one element more before the zeros
