@@ -54,7 +54,7 @@ fn put_out_bonds(
 }
 
 // b goes out, unless it is an in-bond of the transition. Answers how many bonds there are then.
-// `undo_in` has a marking in its form with bonds in strict order, and so has each turn of `take_new_bonds`.
+// `take_new_bonds` has bonds in their form and in strict order at each turn.
 fn take_out(
     step: &[u8],
     lo: &mut [Base; MAX_BONDS],
@@ -164,8 +164,8 @@ fn undo_in(
     held
 }
 
-// Fires the transition on a marking by value. Callers have a marking in its form and good, and an accepted sheet
-// (proofs/Kept: ready-good).
+// Fires the transition on a marking by value. Callers have a marking in its form and good, and an accepted sheet: so it is
+// ready (the proofs of steps).
 pub fn fire(step: &[u8], n: usize, m: Marking) -> Marking
     requires { ⌜ Ready n (arcsIn (now step)) m ⌝ }
     ensures { λ r. ⌜ r ≡ laid (fire n (arcsIn (now (step .entry))) (markingOf n m)) ⌝ }

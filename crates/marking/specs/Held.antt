@@ -11,7 +11,3 @@ holding places count lo hi = record { places = places; count = count; lo = lo; h
 -- the bonds alone: a marking of no places
 abbrev pub bonded : ℕ → List ℕ → List ℕ → Marking
 bonded count lo hi = holding [] count lo hi
-
--- a marking with the bonds of another
-abbrev pub withBondsOf : Marking → Marking → Marking
-withBondsOf m b = holding (m .places) (b .count) (b .lo) (b .hi)

@@ -61,7 +61,8 @@ returns c =
     let at : tie.At-loop Inv-loop μ-loop = c .before in
     let s = at .before in
     let l : List ℕ = s .args .places .now in
-    fill-end (λ q. pick (getD (s .args .may .now) q false) (getD (s .args .next .now) q 0) (getD l q 0)) (at .loop .p) maxBases l (at .loop .places) (at .loop .inv .1) (omega arith) (at .loop .inv .2)
+    fill-end (λ q. pick (getD (s .args .may .now) q false) (getD (s .args .next .now) q 0) (getD l q 0)) (at .loop .p) maxBases l
+    (at .loop .places) (at .loop .inv .1) (omega arith) (at .loop .inv .2)
 
 pub send-some-spec : {M : Type 1} → statement M
 send-some-spec =

@@ -18,7 +18,8 @@ use Rattle.engine.proofs.take_new_bonds.Tie as tie
 
 abbrev Inv-loop : tie.InvT-loop
 Inv-loop step lo₀ hi₀ count made held₀ i₀ lo hi held i = (made ≡ outCount step) × (i ≤ made) ×
-    (bonded held lo hi ≡ withBonds (bonded count lo₀ hi₀) (keep (λ (c : Bond). not (hasBond c (table i (nthOutBond step)) && not (hasBond c (arcsIn step .inBonds)))) (bondsOf (bonded count lo₀ hi₀))))
+    (bonded held lo hi ≡ withBonds (bonded count lo₀ hi₀)
+    (keep (λ (c : Bond). not (hasBond c (table i (nthOutBond step)) && not (hasBond c (arcsIn step .inBonds)))) (bondsOf (bonded count lo₀ hi₀))))
 
 abbrev μ-loop : tie.MeasureT-loop
 μ-loop step lo₀ hi₀ count made held₀ i₀ lo hi held i = made - i
@@ -54,8 +55,12 @@ loop-again : tie.Need-loop-again Inv-loop μ-loop
 loop-again c =
     let b : tie.After-out-bond Inv-loop μ-loop = c .before .before .before in
     let at = b .before .before in
-    let s = at .before .before .before in
-    (search needs, search needs, take-gives (arcsIn (s .args .step .now)) (m s) (s .pre) (nthOutBond (s .args .step .now)) (at .loop .i) _ (at .loop .inv .2) _ (b .out-bond .ensures) _ (c .take-out .ensures))
+    let s = at .before .before .before in (
+      search needs,
+      search needs,
+      take-gives (arcsIn (s .args .step .now)) (m s) (s .pre) (nthOutBond (s .args .step .now)) (at .loop .i) _
+          (at .loop .inv .2) _ (b .out-bond .ensures) _ (c .take-out .ensures),
+    )
 
 returns : tie.Need-returns Inv-loop μ-loop
 returns c = let e : c .before .loop .i ≡ outCount (c .before .before .before .before .args .step .now) = omega arith in c .before .loop .inv .2 ∙ rw e

@@ -5,7 +5,7 @@ use native.Mathlib.Omega.{arith}
 use Rattle.format.specs.Arcs.{arcsIn, entryCount, nthEntry}
 use Rattle.bonds.proofs.Fill.{mem-table}
 use Rattle.marking.specs.declared.Marking.{Marking}
-use Rattle.marking.specs.Held.{holding, withBondsOf}
+use Rattle.marking.specs.Held.{holding}
 use Rattle.marking.proofs.Lent.{bonds-order}
 use Rattle.enabling.proofs.Readiness.{room, in-order, ends-low, entry-low}
 use Rattle.engine.proofs.Sending.{places-length}
@@ -15,6 +15,10 @@ use Rattle.engine.proofs.undo_in.Statement.{statement}
 
 abbrev m : tie.Start → Marking
 m s = holding (s .args .places .now) (s .args .count) (s .args .lo .now) (s .args .hi .now)
+
+-- the places with other bonds
+abbrev rebonded : tie.Start → Marking → Marking
+rebonded s b = holding (s .args .places .now) (b .count) (b .lo) (b .hi)
 
 abbrev start : tie.After-take-new-bonds → tie.Start
 start c = c .before .before .before .before
@@ -30,7 +34,7 @@ labels-requires c κs =
     let a : tie.After-take-new-bonds = c .before .before .before .before in
     let s = start a in
     let t = arcsIn (s .args .step .now) in
-    let R = ready-cut (s .args .n) t (m s) (s .pre) _ (ap (withBondsOf (m s)) (a .take-new-bonds .ensures)) in
+    let R = ready-cut (s .args .n) t (m s) (s .pre) _ (ap (rebonded s) (a .take-new-bonds .ensures)) in
     let h = room (s .args .n) t _ R in
     ((omega arith, omega arith), ends-low (s .args .n) t _ R)
 
@@ -55,7 +59,7 @@ returns c =
     let l : tie.After-labels = e .before .before .before .before in
     let a : tie.After-take-new-bonds = l .before .before .before .before .before in
     let s = start a in
-    undo-made (s .args .n) (arcsIn (s .args .step .now)) (m s) (s .pre) _ (ap (withBondsOf (m s)) (a .take-new-bonds .ensures)) _ (l .labels .ensures)
+    undo-made (s .args .n) (arcsIn (s .args .step .now)) (m s) (s .pre) _ (ap (rebonded s) (a .take-new-bonds .ensures)) _ (l .labels .ensures)
     (s .args .moved .now) _ (e .send-entries .ensures) _ (c .send-some .ensures)
 
 pub undo-in-spec : {M : Type 1} → statement M

@@ -26,8 +26,11 @@ entry-count-requires c κs = search needs
 loop-holds : tie.Need-loop-holds Inv-loop μ-loop
 loop-holds c =
     let s = c .before .before in
-    let e = c .entry-count .ensures in
-    (omega arith, sent-none maxBases (entryCount (s .args .step .now)) (side (s .args .back)) (labelIn (s .args .labels .now)) (nthEntry (s .args .step .now)) (s .args .places .now) (c .entry-count .result) e (s .pre .0))
+    let e = c .entry-count .ensures in (
+      omega arith,
+      sent-none maxBases (entryCount (s .args .step .now)) (side (s .args .back)) (labelIn (s .args .labels .now)) (nthEntry (s .args .step .now))
+          (s .args .places .now) (c .entry-count .result) e (s .pre .0),
+    )
 
 sub-left : tie.Need-sub-left Inv-loop μ-loop
 sub-left c = search needs
@@ -52,7 +55,8 @@ send-group-requires : tie.Need-send-group-requires Inv-loop μ-loop
 send-group-requires c κs =
     let at : tie.At-loop Inv-loop μ-loop = c .before .before .before .before .before .before in
     let s = at .before .before .before in
-    sent-length maxBases (entryCount (s .args .step .now)) (side (s .args .back)) (labelIn (s .args .labels .now)) (nthEntry (s .args .step .now)) (s .args .places .now) (at .loop .left) (at .loop .places) (at .loop .inv .1)
+    sent-length maxBases (entryCount (s .args .step .now)) (side (s .args .back)) (labelIn (s .args .labels .now)) (nthEntry (s .args .step .now))
+    (s .args .places .now) (at .loop .left) (at .loop .places) (at .loop .inv .1)
 
 loop-less : tie.Need-loop-less Inv-loop μ-loop
 loop-less c = search needs
@@ -64,8 +68,9 @@ loop-again c =
     let at : tie.At-loop Inv-loop μ-loop = e .before .before in
     let s = at .before .before .before in (
       omega arith,
-      sent-turn maxBases (entryCount (s .args .step .now)) (side (s .args .back)) (labelIn (s .args .labels .now)) (nthEntry (s .args .step .now)) (s .args .places .now) (at .loop .left)
-          (e .entry .result) _ (g .side .result) (at .loop .places) _ (omega arith) (omega arith) (e .entry .ensures) refl (g .side .ensures) (at .loop .inv .1) (c .send-group .ensures),
+      sent-turn maxBases (entryCount (s .args .step .now)) (side (s .args .back)) (labelIn (s .args .labels .now)) (nthEntry (s .args .step .now))
+          (s .args .places .now) (at .loop .left) (e .entry .result) _ (g .side .result) (at .loop .places) _ (omega arith) (omega arith) (e .entry .ensures)
+          refl (g .side .ensures) (at .loop .inv .1) (c .send-group .ensures),
     )
 
 returns : tie.Need-returns Inv-loop μ-loop
@@ -73,7 +78,9 @@ returns c =
     let at : tie.At-loop Inv-loop μ-loop = c .before in
     let s = at .before .before .before in
     let e : at .loop .left ≡ 0 = omega arith in
-    at .loop .inv .1 ∙ ap (sentFrom maxBases (entryCount (s .args .step .now)) (side (s .args .back)) (labelIn (s .args .labels .now)) (nthEntry (s .args .step .now)) (s .args .places .now)) e
+    at .loop .inv .1
+    ∙ ap (sentFrom maxBases (entryCount (s .args .step .now)) (side (s .args .back)) (labelIn (s .args .labels .now)) (nthEntry (s .args .step .now))
+    (s .args .places .now)) e
 
 pub send-entries-spec : {M : Type 1} → statement M
 send-entries-spec =

@@ -25,8 +25,13 @@ loop-holds : tie.Need-loop-holds Inv-loop μ-loop
 loop-holds c =
     let l : List ℕ = c .args .a .now in
     let k = c .args .k in
-    let f : ℕ → ℕ = λ i. getD l i 0 in
-    (search needs, search needs, search needs, sym (slot-at k (c .args .x) f k refl), fill-start (slot k (c .args .x) f) k l 0 (omega arith) (λ p h. slot-below k (c .args .x) f p h))
+    let f : ℕ → ℕ = λ i. getD l i 0 in (
+      search needs,
+      search needs,
+      search needs,
+      sym (slot-at k (c .args .x) f k refl),
+      fill-start (slot k (c .args .x) f) k l 0 (omega arith) (λ p h. slot-below k (c .args .x) f p h),
+    )
 
 element-copy-out-next : tie.Need-element-copy-out-next Inv-loop μ-loop
 element-copy-out-next c = search needs
@@ -51,7 +56,8 @@ loop-again c =
       search needs,
       search needs,
       search needs,
-      read-ahead g (at .loop .j) (at .loop .j) l (at .loop .a) 0 (omega arith) (at .loop .inv .4) ∙ ap f e ∙ sym (slot-above (from .args .k) (from .args .x) f (at .loop .j + 1) (omega arith)),
+      read-ahead g (at .loop .j) (at .loop .j) l (at .loop .a) 0 (omega arith) (at .loop .inv .4)
+          ∙ ap f e ∙ sym (slot-above (from .args .k) (from .args .x) f (at .loop .j + 1) (omega arith)),
       fill-turn g (at .loop .j) l (at .loop .a) 0 (at .loop .held) (omega arith) (at .loop .inv .3) (at .loop .inv .4),
     )
 

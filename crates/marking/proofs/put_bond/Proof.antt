@@ -1,9 +1,8 @@
 -- `marking::put_bond` meets its contract.
 -- Assumes nothing.
 use native.Mathlib.Omega.{arith}
-use mathlib.Core.Path.{_≡_, ap, sym, _∙_}
+use mathlib.Core.Path.{_≡_, sym, _∙_}
 use Prim.Native.Nat.{_<_, _≤_}
-use lib.ListN.{getD}
 use borrow.Author.Needs.{needs}
 use mathlib.Core.Bool.{false}
 use Rattle.net.specs.Limits.{maxBonds}
@@ -12,11 +11,10 @@ use Rattle.net.specs.Net.{hasBond, lessBond}
 use Rattle.bonds.proofs.Fill.{count-table}
 use Rattle.bonds.specs.Ends.{ends}
 use Rattle.marking.specs.declared.Marking.{Marking}
-use Rattle.marking.specs.Shift.{slot}
-use Rattle.marking.specs.Form.{bondsOf, los, his}
+use Rattle.marking.specs.Form.{bondsOf}
 use Rattle.marking.proofs.Forms.{added, not-added, one-more}
 use Rattle.marking.specs.Held.{bonded}
-use Rattle.marking.proofs.Lent.{more-padded, length-los, length-his, lo-length, hi-length}
+use Rattle.marking.proofs.Lent.{lo-length, hi-length, lo-more, hi-more}
 use Rattle.marking.proofs.put_bond.Statement.{statement}
 use Rattle.marking.proofs.put_bond.Tie as tie
 
@@ -76,8 +74,7 @@ returns-2 c =
     let I = s .pre .0 in
     let k = r .rank .result in
     added m (s .args .b) (I .order) k _ _ (absent (else1 r)) (r .rank .ensures)
-    (more-padded (slot k (s .args .b .lo) (λ i. getD (m .lo) i 0)) (m .count) maxBonds (los (bondsOf m)) (m .lo) _ (length-los m) (ap (λ (x : Marking). x .lo) (I .form)) (c .before .before .insert .ensures))
-    (more-padded (slot k (s .args .b .hi) (λ i. getD (m .hi) i 0)) (m .count) maxBonds (his (bondsOf m)) (m .hi) _ (length-his m) (ap (λ (x : Marking). x .hi) (I .form)) (c .insert2 .ensures))
+    (lo-more m I _ _ (c .before .before .insert .ensures)) (hi-more m I _ _ (c .insert2 .ensures))
 
 pub put-bond-spec : {M : Type 1} → statement M
 put-bond-spec =

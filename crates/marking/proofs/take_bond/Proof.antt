@@ -1,23 +1,20 @@
 -- `marking::take_bond` meets its contract.
 -- Assumes nothing.
 use native.Mathlib.Omega.{arith}
-use mathlib.Core.Path.{_≡_, ap, sym, _∙_}
+use mathlib.Core.Path.{_≡_, sym, _∙_}
 use Prim.Native.Nat.{_<_}
-use lib.ListN.{getD}
 use borrow.Author.Needs.{needs}
 use mathlib.Core.Bool.{true}
 use borrow.Author.Tests.{not-true, not-false}
-use Rattle.net.specs.Limits.{maxBonds}
 use Rattle.net.specs.Net.{hasBond, sameBond, lessBond}
 use Rattle.net.proofs.Bonds.{bond-order}
 use Rattle.net.proofs.Tables.{length-table}
 use Rattle.bonds.specs.Ends.{ends}
 use Rattle.marking.specs.declared.Marking.{Marking}
-use Rattle.marking.specs.Shift.{gap}
-use Rattle.marking.specs.Form.{bondsOf, los, his}
+use Rattle.marking.specs.Form.{bondsOf}
 use Rattle.marking.proofs.Forms.{taken, not-taken}
 use Rattle.marking.specs.Held.{bonded}
-use Rattle.marking.proofs.Lent.{less-padded, length-los, length-his, lo-length, hi-length}
+use Rattle.marking.proofs.Lent.{lo-length, hi-length, lo-less, hi-less}
 use Rattle.marking.proofs.Shifts.{rank-below}
 use Rattle.marking.proofs.take_bond.Statement.{statement}
 use Rattle.marking.proofs.take_bond.Tie as tie
@@ -80,8 +77,7 @@ returns-2 c =
     let k = r .rank .result in
     let h = near r in
     taken m (s .args .b) (I .order) k _ _ (present (else1 r)) (r .rank .ensures)
-    (less-padded (gap k (λ i. getD (m .lo) i 0)) (m .count) maxBonds (los (bondsOf m)) (m .lo) _ (omega arith) (I .room) (length-los m) (ap (λ (x : Marking). x .lo) (I .form)) (c .before .before .remove .ensures))
-    (less-padded (gap k (λ i. getD (m .hi) i 0)) (m .count) maxBonds (his (bondsOf m)) (m .hi) _ (omega arith) (I .room) (length-his m) (ap (λ (x : Marking). x .hi) (I .form)) (c .remove2 .ensures))
+    (lo-less m I (omega arith) _ _ (c .before .before .remove .ensures)) (hi-less m I (omega arith) _ _ (c .remove2 .ensures))
 
 pub take-bond-spec : {M : Type 1} → statement M
 take-bond-spec =
