@@ -1,10 +1,10 @@
 -- `engine::put_out_bonds` meets its contract.
 -- Assumes nothing.
-use borrow.Author.Needs.{needs}
-use native.Mathlib.Omega.{arith}
 use mathlib.Core.Path.{_≡_}
 use Prim.Native.Nat.{_≤_}
+use native.Mathlib.Omega.{arith}
 use lib.ListN.{drop}
+use borrow.Author.Needs.{needs}
 use Rattle.net.specs.Net.{sameBond, lessBond}
 use Rattle.net.specs.Sorted.{puts}
 use Rattle.net.specs.Tests.{table}
@@ -13,8 +13,8 @@ use Rattle.marking.specs.declared.Marking.{Marking}
 use Rattle.marking.specs.Form.{bondsOf, withBonds}
 use Rattle.marking.specs.Held.{bonded}
 use Rattle.engine.proofs.Adding.{held-none, held-all, add-asks, add-gives}
-use Rattle.engine.proofs.put_out_bonds.Statement.{statement}
 use Rattle.engine.proofs.put_out_bonds.Tie as tie
+use Rattle.engine.proofs.put_out_bonds.Statement.{statement}
 
 abbrev Inv-loop : tie.InvT-loop
 Inv-loop step lo₀ hi₀ count held₀ left₀ lo hi held left = (left ≤ outCount step) × (bonded held lo hi ≡ withBonds (bonded count lo₀ hi₀)

@@ -1,18 +1,18 @@
 -- `engine::send_some` meets its contract.
 -- Assumes nothing.
-use borrow.Author.Needs.{needs}
-use native.Mathlib.Omega.{arith}
 use mathlib.Core.Path.{_≡_, refl, ap, _∙_}
-use Prim.Native.Nat.{ℕ, _-_, _≤_}
-use lib.ListN.{length, getD, drop}
 use mathlib.Core.List.{List, _++_}
 use mathlib.Core.Bool.{false}
+use Prim.Native.Nat.{ℕ, _-_, _≤_}
+use native.Mathlib.Omega.{arith}
+use lib.ListN.{length, getD, drop}
+use borrow.Author.Needs.{needs}
 use Rattle.net.specs.Limits.{maxBases}
 use Rattle.net.specs.Tests.{pick, table}
 use Rattle.bonds.proofs.Fill.{fill-turn, fill-end}
 use Rattle.marking.proofs.InPlace.{read-ahead}
-use Rattle.engine.proofs.send_some.Statement.{statement}
 use Rattle.engine.proofs.send_some.Tie as tie
+use Rattle.engine.proofs.send_some.Statement.{statement}
 
 abbrev Inv-loop : tie.InvT-loop
 Inv-loop may next places₀ p₀ places p =

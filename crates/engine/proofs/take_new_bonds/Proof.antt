@@ -1,20 +1,20 @@
 -- `engine::take_new_bonds` meets its contract.
 -- Assumes nothing.
-use borrow.Author.Needs.{needs}
-use native.Mathlib.Omega.{arith}
 use mathlib.Core.Path.{_≡_, _∙_}
-use Prim.Native.Nat.{_-_, _≤_}
 use mathlib.Core.Bool.{not, _&&_}
+use Prim.Native.Nat.{_-_, _≤_}
+use native.Mathlib.Omega.{arith}
+use borrow.Author.Needs.{needs}
 use Rattle.net.specs.declared.Bond.{Bond}
 use Rattle.net.specs.Net.{hasBond}
 use Rattle.net.specs.Tests.{keep, table}
 use Rattle.format.specs.Arcs.{outCount, nthOutBond, arcsIn}
 use Rattle.marking.specs.declared.Marking.{Marking}
 use Rattle.marking.specs.Form.{bondsOf, withBonds}
-use Rattle.engine.proofs.Removing.{left-all, take-asks, take-gives}
 use Rattle.marking.specs.Held.{bonded}
-use Rattle.engine.proofs.take_new_bonds.Statement.{statement}
+use Rattle.engine.proofs.Removing.{left-all, take-asks, take-gives}
 use Rattle.engine.proofs.take_new_bonds.Tie as tie
+use Rattle.engine.proofs.take_new_bonds.Statement.{statement}
 
 abbrev Inv-loop : tie.InvT-loop
 Inv-loop step lo₀ hi₀ count made held₀ i₀ lo hi held i = (made ≡ outCount step) × (i ≤ made) ×

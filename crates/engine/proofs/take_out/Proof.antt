@@ -5,10 +5,10 @@ use borrow.Author.Needs.{needs}
 use Rattle.format.specs.Arcs.{arcsIn}
 use Rattle.marking.specs.declared.Marking.{Marking}
 use Rattle.marking.specs.Form.{bondsOf, withBonds}
-use Rattle.engine.proofs.Removing.{stays-in, stays-out}
 use Rattle.marking.specs.Held.{bonded}
-use Rattle.engine.proofs.take_out.Statement.{statement}
+use Rattle.engine.proofs.Removing.{stays-in, stays-out}
 use Rattle.engine.proofs.take_out.Tie as tie
+use Rattle.engine.proofs.take_out.Statement.{statement}
 
 abbrev m : tie.Start → Marking
 m s = bonded (s .args .count) (s .args .lo .now) (s .args .hi .now)

@@ -1,17 +1,16 @@
 -- `groups::send_entries` meets its contract.
 -- Assumes nothing.
-use borrow.Author.Needs.{needs}
-use native.Mathlib.Omega.{arith}
-use mathlib.Core.Path.{_≡_, refl, ap, sym, _∙_}
+use mathlib.Core.Path.{_≡_, refl, sym, _∙_, ap, subst}
 use Prim.Native.Nat.{_-_, _<_, _≤_}
-use mathlib.Core.Path.{subst}
+use native.Mathlib.Omega.{arith}
+use borrow.Author.Needs.{needs}
 use Rattle.net.specs.Limits.{maxBases}
 use Rattle.net.specs.declared.Entry.{Entry}
 use Rattle.format.specs.Arcs.{entryCount, nthEntry}
 use Rattle.groups.specs.Groups.{labelIn, side}
 use Rattle.groups.proofs.Sending.{sentFrom, sent-none, sent-turn, sent-length}
-use Rattle.groups.proofs.send_entries.Statement.{statement}
 use Rattle.groups.proofs.send_entries.Tie as tie
+use Rattle.groups.proofs.send_entries.Statement.{statement}
 
 abbrev Inv-loop : tie.InvT-loop
 Inv-loop step labels places₀ back left₀ places left =

@@ -1,19 +1,19 @@
 -- `groups::send_group` meets its contract.
 -- Assumes nothing.
-use borrow.Author.Needs.{needs}
-use native.Mathlib.Omega.{arith}
 use mathlib.Core.Path.{_≡_, refl, ap, _∙_}
-use Prim.Native.Nat.{ℕ, _-_, _≤_}
-use lib.ListN.{length, getD, drop}
 use mathlib.Core.List.{List, _++_}
+use Prim.Native.Nat.{ℕ, _-_, _≤_}
+use native.Mathlib.Omega.{arith}
+use lib.ListN.{length, getD, drop}
 use lib.Dec.{eqb}
+use borrow.Author.Needs.{needs}
 use Rattle.net.specs.Limits.{maxBases}
 use Rattle.net.specs.Tests.{pick, table}
 use Rattle.bonds.proofs.Fill.{fill-turn, fill-end}
-use Rattle.groups.specs.Groups.{labelIn}
 use Rattle.marking.proofs.InPlace.{read-ahead}
-use Rattle.groups.proofs.send_group.Statement.{statement}
+use Rattle.groups.specs.Groups.{labelIn}
 use Rattle.groups.proofs.send_group.Tie as tie
+use Rattle.groups.proofs.send_group.Statement.{statement}
 
 abbrev Inv-loop : tie.InvT-loop
 Inv-loop labels places₀ x to p₀ places p =

@@ -1,18 +1,18 @@
 -- `marking::insert` meets its contract.
 -- Assumes nothing.
-use borrow.Author.Needs.{needs}
-use native.Mathlib.Omega.{arith}
 use mathlib.Core.Path.{_≡_, refl, ap, sym, _∙_}
-use Prim.Native.Nat.{ℕ, _+_, _-_, _<_, _≤_}
-use lib.ListN.{length, getD, drop}
 use mathlib.Core.List.{List, _++_}
+use Prim.Native.Nat.{ℕ, _+_, _-_, _<_, _≤_}
+use native.Mathlib.Omega.{arith}
+use lib.ListN.{length, getD, drop}
+use borrow.Author.Needs.{needs}
 use Rattle.net.specs.Tests.{table}
 use Rattle.bonds.proofs.Fill.{fill-turn}
 use Rattle.marking.specs.Shift.{slot}
 use Rattle.marking.proofs.Shifts.{slot-below, slot-at, slot-above}
 use Rattle.marking.proofs.InPlace.{fill-start, read-ahead}
-use Rattle.marking.proofs.insert.Statement.{statement}
 use Rattle.marking.proofs.insert.Tie as tie
+use Rattle.marking.proofs.insert.Statement.{statement}
 
 abbrev Inv-loop : tie.InvT-loop
 Inv-loop a₀ n k x held₀ j₀ a held j =

@@ -1,22 +1,22 @@
 -- `marking::put_bond` meets its contract.
 -- Assumes nothing.
-use native.Mathlib.Omega.{arith}
 use mathlib.Core.Path.{_≡_, sym, _∙_}
-use Prim.Native.Nat.{_<_, _≤_}
-use borrow.Author.Needs.{needs}
 use mathlib.Core.Bool.{false}
+use Prim.Native.Nat.{_<_, _≤_}
+use native.Mathlib.Omega.{arith}
+use borrow.Author.Needs.{needs}
 use Rattle.net.specs.Limits.{maxBonds}
 use Rattle.net.specs.declared.Bond.{Bond}
 use Rattle.net.specs.Net.{hasBond, lessBond}
-use Rattle.bonds.proofs.Fill.{count-table}
 use Rattle.bonds.specs.Ends.{ends}
+use Rattle.bonds.proofs.Fill.{count-table}
 use Rattle.marking.specs.declared.Marking.{Marking}
 use Rattle.marking.specs.Form.{bondsOf}
-use Rattle.marking.proofs.Forms.{added, not-added, one-more}
 use Rattle.marking.specs.Held.{bonded}
+use Rattle.marking.proofs.Forms.{added, not-added, one-more}
 use Rattle.marking.proofs.Lent.{lo-length, hi-length, lo-more, hi-more}
-use Rattle.marking.proofs.put_bond.Statement.{statement}
 use Rattle.marking.proofs.put_bond.Tie as tie
+use Rattle.marking.proofs.put_bond.Statement.{statement}
 
 abbrev start : tie.After-has-bond → tie.Start
 start c = c .before .before .before .before .before

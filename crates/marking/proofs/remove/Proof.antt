@@ -1,18 +1,18 @@
 -- `marking::remove` meets its contract.
 -- Assumes nothing.
-use borrow.Author.Needs.{needs}
-use native.Mathlib.Omega.{arith}
 use mathlib.Core.Path.{_≡_, ap, sym, _∙_}
-use Prim.Native.Nat.{ℕ, suc, _+_, _-_, _<_, _≤_}
-use lib.ListN.{length, getD, drop}
 use mathlib.Core.List.{List, _++_}
+use Prim.Native.Nat.{ℕ, suc, _+_, _-_, _<_, _≤_}
+use native.Mathlib.Omega.{arith}
+use lib.ListN.{length, getD, drop}
+use borrow.Author.Needs.{needs}
 use Rattle.net.specs.Tests.{table}
 use Rattle.bonds.proofs.Fill.{fill-turn}
 use Rattle.marking.specs.Shift.{gap}
 use Rattle.marking.proofs.Shifts.{gap-below, gap-from}
 use Rattle.marking.proofs.InPlace.{fill-start, read-ahead, fill-last}
-use Rattle.marking.proofs.remove.Statement.{statement}
 use Rattle.marking.proofs.remove.Tie as tie
+use Rattle.marking.proofs.remove.Statement.{statement}
 
 abbrev Inv-loop : tie.InvT-loop
 Inv-loop a₀ n k last j₀ a j =

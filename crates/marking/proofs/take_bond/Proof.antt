@@ -1,10 +1,10 @@
 -- `marking::take_bond` meets its contract.
 -- Assumes nothing.
-use native.Mathlib.Omega.{arith}
 use mathlib.Core.Path.{_≡_, sym, _∙_}
-use Prim.Native.Nat.{_<_}
-use borrow.Author.Needs.{needs}
 use mathlib.Core.Bool.{true}
+use Prim.Native.Nat.{_<_}
+use native.Mathlib.Omega.{arith}
+use borrow.Author.Needs.{needs}
 use borrow.Author.Tests.{not-true, not-false}
 use Rattle.net.specs.Net.{hasBond, sameBond, lessBond}
 use Rattle.net.proofs.Bonds.{bond-order}
@@ -12,12 +12,12 @@ use Rattle.net.proofs.Tables.{length-table}
 use Rattle.bonds.specs.Ends.{ends}
 use Rattle.marking.specs.declared.Marking.{Marking}
 use Rattle.marking.specs.Form.{bondsOf}
-use Rattle.marking.proofs.Forms.{taken, not-taken}
 use Rattle.marking.specs.Held.{bonded}
+use Rattle.marking.proofs.Forms.{taken, not-taken}
 use Rattle.marking.proofs.Lent.{lo-length, hi-length, lo-less, hi-less}
 use Rattle.marking.proofs.Shifts.{rank-below}
-use Rattle.marking.proofs.take_bond.Statement.{statement}
 use Rattle.marking.proofs.take_bond.Tie as tie
+use Rattle.marking.proofs.take_bond.Statement.{statement}
 
 abbrev start : tie.After-has-bond → tie.Start
 start c = c .before .before .before .before .before
