@@ -15,7 +15,7 @@ use Rattle.net.specs.Tests.{pick, count, table}
 use Rattle.net.specs.Sorted.{has}
 use Rattle.net.proofs.Tables.{length-table, table-more, table-list}
 
-pick-one : (b : Bool) → pick b 1 0 ≤ 1
+pub pick-one : (b : Bool) → pick b 1 0 ≤ 1
 pick-one true = omega arith
 pick-one false = omega arith
 

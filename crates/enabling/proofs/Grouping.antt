@@ -9,10 +9,10 @@ use lib.Dec.{eqb}
 use lib.ListN.{getD}
 use lib.Seq.{getD-take}
 use Rattle.net.specs.Limits.{maxBases}
-use Rattle.net.specs.Tests.{pick, any, table}
+use Rattle.net.specs.Tests.{any, table}
 use Rattle.net.specs.Net.{Arcs, place}
 use Rattle.net.specs.Connection.{label}
-use Rattle.net.specs.Firing.{moves, moved, misplaced, sent, tornApart}
+use Rattle.net.specs.Firing.{moves, moved, misplaced, tornApart}
 use Rattle.net.specs.declared.Entry.{Entry}
 use Rattle.net.proofs.Tests.{any-cong}
 use Rattle.net.proofs.Tables.{getD-table, table-cong}
@@ -21,9 +21,9 @@ use Rattle.bonds.proofs.Fill.{mem-table}
 use Rattle.marking.specs.declared.Marking.{Marking}
 use Rattle.marking.specs.Form.{bondsOf, markingOf}
 use Rattle.groups.specs.declared.Groups.{Groups}
-use Rattle.groups.specs.Groups.{labelIn, side, groupsOf, goesTo}
+use Rattle.groups.specs.Groups.{labelIn, groupsOf}
 use Rattle.enabling.specs.Ready.{Ready}
-use Rattle.enabling.proofs.Moving.{hit-moves, goes-sent, torn-connected}
+use Rattle.enabling.proofs.Moving.{hit-moves, torn-connected}
 use Rattle.enabling.proofs.Readiness.{entry-low, label-low}
 
 module _ (n : ℕ) (t : Arcs) (m : Marking) (R : Ready n t m) where
@@ -49,15 +49,6 @@ module _ (n : ℕ) (t : Arcs) (m : Marking) (R : Ready n t m) (l : List ℕ) (el
     moved-here = ap (λ (k : Groups). table n (λ p. getD (k .hit) (labelIn l p) false)) eg
         ∙ table-cong n (λ p. getD (groupsOf (labelIn l) back (t .entries) .hit) (labelIn l p) false) (moves (bondsOf m) (t .entries))
         (λ p h. let f = R .few in hit-moves maxBases (bondsOf m) (t .entries) l el (entry-low n t m R) (label-low n t m R) p (omega arith))
-
-    pub sent-here : (may : ℕ → Bool) → table n (λ p. goesTo g (labelIn l p) (may p) (getD (m .places) p 0))
-        ≡ table n (λ p. pick (may p) (sent (side back) (bondsOf m) (t .entries) p (place (markingOf n m) p)) (place (markingOf n m) p))
-    sent-here may = ap (λ (k : Groups). table n (λ p. goesTo k (labelIn l p) (may p) (getD (m .places) p 0))) eg
-        ∙ table-cong n (λ p. goesTo (groupsOf (labelIn l) back (t .entries)) (labelIn l p) (may p) (getD (m .places) p 0))
-        (λ p. pick (may p) (sent (side back) (bondsOf m) (t .entries) p (place (markingOf n m) p)) (place (markingOf n m) p))
-        (λ p h. let f = R .few in
-        goes-sent maxBases (bondsOf m) (t .entries) l el (entry-low n t m R) (label-low n t m R) (side back) p (omega arith) (may p) (getD (m .places) p 0)
-        ∙ ap (λ (x : ℕ). pick (may p) (sent (side back) (bondsOf m) (t .entries) p x) x) (place-is n t m R p h))
 
   pub torn-here : (g : Groups) → g ≡ groupsOf (labelIn l) false (t .entries)
       → any (λ (e : Entry). not (eqb (e .to) (getD (g .place) (labelIn l (e .base)) 0))) (t .entries) ≡ tornApart t (markingOf n m)

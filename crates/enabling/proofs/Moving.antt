@@ -46,15 +46,10 @@ firsts-moves bs (e ∷ es) p = go (connected bs (e .base) p) (firsts-moves bs es
     go true h = refl
     go false h = h
 
--- it goes to the place of its group
-firsts-sent : (give : Entry → ℕ) (bs : List Bond) (es : List Entry) (p old : ℕ) → pick (moves bs es p) (firsts give (label bs) es 0 (label bs p)) old ≡ sent give bs es p old
+-- it goes where the first entry of its group sends it
+firsts-sent : (give : Entry → ℕ) (bs : List Bond) (es : List Entry) (p old : ℕ) → firsts give (label bs) es old (label bs p) ≡ sent give bs es p old
 firsts-sent give bs [] p old = refl
-firsts-sent give bs (e ∷ es) p old = go (connected bs (e .base) p) (firsts-sent give bs es p old)
-  where
-    go : (b : Bool) → pick (moves bs es p) (firsts give (label bs) es 0 (label bs p)) old ≡ sent give bs es p old
-        → pick (b || moves bs es p) (pick b (give e) (firsts give (label bs) es 0 (label bs p))) old ≡ pick b (give e) (sent give bs es p old)
-    go true h = refl
-    go false h = h
+firsts-sent give bs (e ∷ es) p old = ap (λ (x : ℕ). pick (connected bs (e .base) p) (give e) x) (firsts-sent give bs es p old)
 
 -- l are the labels, and the groups are those of l
 module _ (N : ℕ) (bs : List Bond) (es : List Entry) (l : List ℕ) (el : l ≡ table N (label bs)) (bases : (e : Entry) → Mem e es → e .base < N)
@@ -70,12 +65,9 @@ module _ (N : ℕ) (bs : List Bond) (es : List Entry) (l : List ℕ) (el : l ≡
   pub hit-moves : (p : ℕ) → p < N → getD (table N (firsts there (labelIn l) es false)) (labelIn l p) false ≡ moves bs es p
   hit-moves p h = in-group there false p h ∙ firsts-moves bs es p
 
-  pub goes-sent : (give : Entry → ℕ) (p : ℕ) → p < N → (may : Bool) (old : ℕ)
-      → pick may (pick (getD (table N (firsts there (labelIn l) es false)) (labelIn l p) false) (getD (table N (firsts give (labelIn l) es 0)) (labelIn l p) 0) old) old
-      ≡ pick may (sent give bs es p old) old
-  goes-sent give p h may old = ap (λ (z : ℕ). pick may z old)
-      (ap (λ (b : Bool). pick b (getD (table N (firsts give (labelIn l) es 0)) (labelIn l p) 0) old) (hit-moves p h)
-      ∙ ap (λ (z : ℕ). pick (moves bs es p) z old) (in-group give 0 p h) ∙ firsts-sent give bs es p old)
+  pub goes-sent : (give : Entry → ℕ) (p old : ℕ) → p < N → firsts give (labelIn l) es old (labelIn l p) ≡ sent give bs es p old
+  goes-sent give p old h = firsts-cong give (labelIn l) (label bs) es old (labelIn l p) (λ e m. label-in (e .base) (bases e m))
+      ∙ ap (firsts give (label bs) es old) (label-in p h) ∙ firsts-sent give bs es p old
 
   -- an entry differs from the first of its group exactly if two entries of one group differ
   pub torn-connected : any (λ (e : Entry). not (eqb (e .to) (getD (table N (firsts (λ (a : Entry). a .to) (labelIn l) es 0)) (labelIn l (e .base)) 0))) es

@@ -1,2 +1,2 @@
--- What adding a transition's bonds needs, and a marking with other places.
+-- What adding a transition's bonds needs, and which bonds stay where one is taken out.
 pub mod Change

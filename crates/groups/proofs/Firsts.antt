@@ -1,7 +1,6 @@
 -- Laws of groups: a loop over the entries, from the last to the first, that stores what each gives at its label.
 -- Assumes nothing. N is the number of labels.
 use mathlib.Core.Path.{_≡_, refl, sym, _∙_, ap}
-use mathlib.Core.Bool.{Bool, true, false, _&&_}
 use mathlib.Core.List.{List, _∷_}
 use Prim.Native.Nat.{ℕ, zero, suc, _-_, _<_, _≤_}
 use native.Mathlib.Omega.{arith}
@@ -9,7 +8,7 @@ use lib.Dec.{eqb}
 use lib.ListN.{length, getD, drop, set, replicate, length-set, drop-of-length-le}
 use lib.Seq.{ext-getD, getD-set-same, getD-set-other, drop-cons}
 use borrow.Author.Tests.{eqb-true, eqb-false}
-use Rattle.causal.proofs.Tests.{test, both}
+use Rattle.causal.proofs.Tests.{test}
 use Rattle.net.specs.Tests.{pick, table}
 use Rattle.net.specs.declared.Entry.{Entry}
 use Rattle.net.proofs.Tables.{length-table, getD-table}
@@ -59,15 +58,3 @@ module _ {X : Type 0} (N n : ℕ) (give : Entry → X) (lab : ℕ → ℕ) (f : 
   -- every entry was looked at
   pub first-all : (L : ℕ) (l : List X) → L ≡ 0 → l ≡ table N (firsts give lab (drop L (table n f)) d) → l ≡ table N (firsts give lab (table n f) d)
   first-all L l e z = z ∙ ap (λ (k : ℕ). table N (firsts give lab (drop k (table n f)) d)) e
-
--- ---- choosing with two tests
-
-pub pick-both : {X : Type 0} (a b : Bool) (x y : X) → (a && b) ≡ true → x ≡ pick a (pick b x y) y
-pick-both true true x y h = refl
-pick-both true false x y h = both false h refl
-pick-both false b x y h = both false h refl
-
-pub pick-not-both : {X : Type 0} (a b : Bool) (x y : X) → (a && b) ≡ false → y ≡ pick a (pick b x y) y
-pick-not-both true true x y h = both true refl h
-pick-not-both true false x y h = refl
-pick-not-both false b x y h = refl

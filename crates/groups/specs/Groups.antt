@@ -30,7 +30,3 @@ there e = true
 
 abbrev pub groupsOf : (ℕ → ℕ) → Bool → List Entry → Groups
 groupsOf lab back es = record { hit = table maxBases (firsts there lab es false); place = table maxBases (firsts (side back) lab es 0) }
-
--- where a base goes that may go: to its group's place, if its group has one
-abbrev pub goesTo : Groups → ℕ → Bool → ℕ → ℕ
-goesTo g x may old = pick may (pick (getD (g .hit) x false) (getD (g .place) x 0) old) old

@@ -1,16 +1,16 @@
-// Bases grouped by label, as a firing or a taking back moves them: one pass over the entries, one over the bases.
+// Bases grouped by label, as a firing or a taking back moves them: which groups the entries hit, and bases sent in place.
 // The label of a group stands for it: hit[x] and place[x] are those of the group with label x.
 ghost use mathlib.Core.Path.{_≡_};
 ghost use mathlib.Core.Bool.{true, false, not};
-ghost use Prim.Native.Nat.{ℕ, _+_, _<_, _≤_};
+ghost use Prim.Native.Nat.{ℕ, _<_, _≤_};
 ghost use lib.Dec.{eqb};
-ghost use lib.ListN.{getD};
+ghost use lib.ListN.{length, getD};
 ghost use Rattle.net.specs.Limits.{maxBases};
 ghost use Rattle.net.specs.Tests.{pick, any, table};
 ghost use Rattle.net.specs.declared.Entry.{Entry};
 ghost use Rattle.format.specs.Arcs.{entryCount, nthEntry, arcsIn};
-ghost use Rattle.marking.specs.Form.{padded, flags};
-ghost use Rattle.groups.specs.Groups.{labelIn, side, groupsOf, goesTo};
+ghost use Rattle.marking.specs.Form.{flags};
+ghost use Rattle.groups.specs.Groups.{firsts, labelIn, side, groupsOf};
 use format::entry;
 use format::entry_count;
 use net::Base;
@@ -69,32 +69,51 @@ pub fn moved(n: usize, labels: [Base; MAX_BASES], g: Groups) -> [bool; MAX_BASES
     new
 }
 
-// Where a base goes: to its group's place if it may go and its group is hit.
-fn chosen(may: bool, hit: bool, to: Place, old: Place) -> Place
-    ensures { λ r. ⌜ r ≡ pick may (pick hit to old) old ⌝ }
+// Where a base goes: to `to` if it goes at all.
+pub fn chosen(goes: bool, to: Place, old: Place) -> Place
+    ensures { λ r. ⌜ r ≡ pick goes to old ⌝ }
 {
-    if may & hit { to } else { old }
+    if goes { to } else { old }
 }
 
-// The places after the bases that may go went to the places of their groups.
-pub fn sent_places(
-    n: usize,
-    places: [Place; MAX_BASES],
-    labels: [Base; MAX_BASES],
-    g: Groups,
-    may: [bool; MAX_BASES],
-) -> [Place; MAX_BASES]
-    requires { ⌜ (n ≤ maxBases) × ((p : ℕ) → p < n → labelIn labels p < maxBases) ⌝ }
-    ensures { λ r. ⌜ r ≡ padded maxBases (table n (λ p. goesTo g (labelIn labels p) (getD may p false) (getD places p 0))) ⌝ }
+// Every base with the label x goes to `to`. The pass goes over all bases up to the limit: a constant number of turns, so that
+// the compiler does many at a time. The callers' array of places has its full length.
+fn send_group(labels: &[Base; MAX_BASES], places: &mut [Place; MAX_BASES], x: Base, to: Place)
+    requires { ⌜ length (now places) ≡ maxBases ⌝ }
+    ensures { λ _. ⌜
+        now (places .exit)
+        ≡ table maxBases (λ p. pick (eqb x (labelIn (now (labels .entry)) p)) to (getD (now (places .entry)) p 0)) ⌝ }
 {
-    let mut new = [0u8; MAX_BASES];
     let mut p = 0;
-    while p < n {
-        let x = labels[p] as usize;
-        new[p] = chosen(may[p], g.hit[x], g.place[x], places[p]);
+    while p < MAX_BASES {
+        places[p] = chosen(x == labels[p], to, places[p]);
         p += 1;
     }
-    new
+}
+
+// Every base whose group an entry hits goes to the place that the first such entry gives: from the last entry to the first.
+// The callers' places are those of a marking in its form, and their entries are of bases of the net.
+pub fn send_entries(
+    step: &[u8],
+    labels: &[Base; MAX_BASES],
+    places: &mut [Place; MAX_BASES],
+    back: bool,
+)
+    requires { ⌜ length (now places) ≡ maxBases ⌝ }
+    requires { ⌜ ((i : ℕ) → i < entryCount (now step) → nthEntry (now step) i .base < maxBases) ⌝ }
+    ensures { λ _. ⌜
+        now (places .exit)
+        ≡ table maxBases (λ p. firsts (side back) (labelIn (now (labels .entry))) (arcsIn (now (step .entry)) .entries)
+        (getD (now (places .entry)) p 0) (labelIn (now (labels .entry)) p)) ⌝ }
+{
+    let mut left = entry_count(step);
+    while 0 < left {
+        left -= 1;
+        let e = entry(step, left);
+        let x = labels[e.base as usize];
+        let to = side(back, e);
+        send_group(labels, places, x, to);
+    }
 }
 
 // Whether some entry gives another place than the first of its group.

@@ -1,16 +1,13 @@
 -- Laws of the struct that holds a marking: its bonds after one is put in or taken out, and its form.
 -- Assumes nothing.
-use mathlib.Core.Path.{_≡_, refl, sym, _∙_, ap}
+use mathlib.Core.Path.{_≡_, sym, _∙_, ap}
 use mathlib.Core.Bool.{Bool, true, false, not, _&&_}
 use mathlib.Core.List.{List}
-use Prim.Native.Nat.{ℕ, zero, suc, _+_, _-_, _<_, _≤_}
-use native.Mathlib.Omega.{arith}
+use Prim.Native.Nat.{ℕ, suc, _+_, _-_, _<_, _≤_}
 use native.Mathlib.Numerals.{add-one}
 use lib.ListN.{length, getD, take, replicate, length-map, List·getD-append, List·getD-map}
-use lib.Seq.{getD-take, length-take-le}
 use lib.Dec.{leb}
 use borrow.Author.Tests.{leb-true, le-leb}
-use Rattle.causal.proofs.Tests.{both}
 use Rattle.net.specs.Limits.{maxBases, maxBonds}
 use Rattle.net.specs.Tests.{keep, table}
 use Rattle.net.specs.Sorted.{Ascending, put}
@@ -25,6 +22,7 @@ use Rattle.marking.specs.declared.Marking.{Marking}
 use Rattle.marking.specs.Shift.{slot, gap}
 use Rattle.marking.specs.Form.{padded, los, his, bondsOf, markingOf, withBonds, InOrder, laid, zeroFrom, inForm}
 use Rattle.marking.proofs.Padding.{zero-padded, take-padded, padded-zero}
+use Rattle.marking.proofs.InPlace.{table-take}
 use Rattle.marking.proofs.Shifts.{slot-map, gap-map, put-table, put-present, keep-table, keep-absent}
 
 -- ---- one bond more
@@ -83,13 +81,6 @@ module _ (m : Marking) (b : Bond) (I : InOrder m) where
   one-more h = ap length (put-table sameBond lessBond bond-order b (m .count) (ends (m .lo) (m .hi)) (I .order) h)
       ∙ length-table (suc (m .count)) (slot (rankIn (m .lo) (m .hi) (m .count) b) b (ends (m .lo) (m .hi))) ∙ sym (add-one (m .count))
 
-  pub some : hasBond b (bondsOf m) ≡ true → 0 < m .count
-  some h = go (m .count) h
-    where
-      go : (k : ℕ) → hasBond b (bondsIn (m .lo) (m .hi) k) ≡ true → 0 < k
-      go zero e = both false e refl
-      go (suc k) e = omega arith
-
 -- ---- the bonds that are in the struct
 
 getD-los : (bs : List Bond) (N i : ℕ) → i < length bs → getD (padded N (los bs)) i 0 ≡ getD bs i (bond 0 0) .lo
@@ -119,12 +110,6 @@ in-order-with m bs h o = record {
 
 -- ---- the form
 
-take-table : (l : List ℕ) (k : ℕ) → k ≤ length l → table k (λ i. getD l i 0) ≡ take k l
-take-table l k h =
-    let s : length (take k l) ≡ k = length-take-le k l h in
-    table-cong k (λ i. getD l i 0) (λ i. getD (take k l) i 0) (λ i j. sym (getD-take k l i 0 j))
-    ∙ ap (λ (r : ℕ). table r (λ i. getD (take k l) i 0)) (sym s) ∙ table-list (take k l) 0
-
 -- the arrays' lengths, which the struct's type gives
 pub record Sized (m : Marking) : Type 0 where
   pub places : length (m .places) ≡ maxBases
@@ -136,8 +121,8 @@ module _ (m : Marking) (S : Sized m) where
   pub zeros-form : m .count ≤ maxBonds → zeroFrom (m .count) (m .lo) ≡ true → zeroFrom (m .count) (m .hi) ≡ true → m ≡ withBonds m (bondsOf m)
   zeros-form h a b =
       let c : m .count ≡ length (bondsOf m) = sym (length-table (m .count) (ends (m .lo) (m .hi))) in
-      let p : los (bondsOf m) ≡ take (m .count) (m .lo) = map-table (λ (d : Bond). d .lo) (m .count) (ends (m .lo) (m .hi)) ∙ take-table (m .lo) (m .count) (rw (S .lo) h) in
-      let q : his (bondsOf m) ≡ take (m .count) (m .hi) = map-table (λ (d : Bond). d .hi) (m .count) (ends (m .lo) (m .hi)) ∙ take-table (m .hi) (m .count) (rw (S .hi) h) in
+      let p : los (bondsOf m) ≡ take (m .count) (m .lo) = map-table (λ (d : Bond). d .lo) (m .count) (ends (m .lo) (m .hi)) ∙ table-take (m .count) (m .lo) 0 (rw (S .lo) h) in
+      let q : his (bondsOf m) ≡ take (m .count) (m .hi) = map-table (λ (d : Bond). d .hi) (m .count) (ends (m .lo) (m .hi)) ∙ table-take (m .count) (m .hi) 0 (rw (S .hi) h) in
       let u : m .lo ≡ padded maxBonds (los (bondsOf m)) = zero-padded (m .lo) (m .count) maxBonds (S .lo) h a ∙ ap (padded maxBonds) (sym p) in
       let v : m .hi ≡ padded maxBonds (his (bondsOf m)) = zero-padded (m .hi) (m .count) maxBonds (S .hi) h b ∙ ap (padded maxBonds) (sym q) in
       λ i. record { places = m .places; count = c i; lo = u i; hi = v i }

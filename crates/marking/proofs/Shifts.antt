@@ -7,6 +7,7 @@ use mathlib.Core.List.{List, [], _∷_}
 use Prim.Native.Nat.{ℕ, zero, suc, _+_, _-_, _<_, _≤_}
 use native.Mathlib.Omega.{arith}
 use lib.Dec.{eqb, ltb}
+use lib.ListN.{length}
 use borrow.Author.Tests.{ltb-true, ltb-false, eqb-true, eqb-false, lt-ltb, le-ltb, eq-eqb, ne-eqb}
 use Rattle.causal.proofs.Tests.{test, both}
 use Rattle.net.specs.Tests.{pick, count, keep, table}
@@ -14,6 +15,7 @@ use Rattle.net.specs.Sorted.{has, Ascending, put}
 use Rattle.net.proofs.Tests.{fails, or-e, or-l, or-r, or-no-l, or-no-r}
 use Rattle.net.proofs.Tables.{table-cong}
 use Rattle.net.proofs.Sorted.{Order}
+use Rattle.bonds.proofs.Fill.{pick-one, count-le}
 use Rattle.marking.specs.Shift.{slot, gap}
 
 module _ {X : Type 0} (k : ℕ) (x : X) (f : ℕ → X) where
@@ -74,6 +76,18 @@ module _ {X : Type 0} (eq lt : X → X → Bool) (O : Order eq lt) where
       let a : lt y x ≡ false = fails (lt y x) (λ e. both (lt x x) (O .trans x y x (h y (or-l (eq y y) (has eq y l) (O .eq-same y))) e) (O .irrefl x)) in
       let b = count-none x l (λ z m. h z (or-r (eq z y) (has eq z l) m)) in
       rw a (omega arith)
+
+  -- what is there has fewer below it than there are
+  pub rank-below : (x : X) (l : List X) → has eq x l ≡ true → count (λ y. lt y x) l < length l
+  rank-below x [] h = both false h refl
+  rank-below x (y ∷ l) h = at (rank-below x l) (or-e (eq x y) (has eq x l) h)
+    where
+      at : (has eq x l ≡ true → count (λ z. lt z x) l < length l) → (eq x y ≡ true) ⊎ (has eq x l ≡ true) → count (λ z. lt z x) (y ∷ l) < length (y ∷ l)
+      at ih (inl e) =
+          let q : lt y x ≡ false = ap (λ (z : X). lt z x) (sym (O .same-eq x y e)) ∙ O .irrefl x in
+          let c = count-le (λ z. lt z x) l in
+          rw q (omega arith)
+      at ih (inr e) = let c = ih e in let d = pick-one (lt y x) in omega arith
 
   -- where x is not there, what is not x is all
   pub keep-absent : (x : X) (l : List X) → has eq x l ≡ false → keep (λ y. not (eq y x)) l ≡ l

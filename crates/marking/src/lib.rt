@@ -1,16 +1,19 @@
-// A marking by value: the places of the bases, and the bonds in ascending order; unused entries are 0.
-// Bonds go in and out at their place in the order. Sets of bases are arrays of flags.
+// A marking: the places of the bases, and the bonds in ascending order; unused entries are 0.
+// Bonds go in and out where they lie, at their place in the order. Sets of bases are arrays of flags.
 ghost use mathlib.Core.Path.{_≡_};
 ghost use mathlib.Core.Bool.{not};
+ghost use mathlib.Core.List.{_∷_, _++_};
 ghost use Prim.Native.Nat.{_+_, _-_, _<_, _≤_};
-ghost use lib.ListN.{length, getD};
+ghost use lib.ListN.{length, getD, drop};
 ghost use Rattle.net.specs.Limits.{maxBonds};
 ghost use Rattle.net.specs.Tests.{keep, table};
 ghost use Rattle.net.specs.Sorted.{put};
 ghost use Rattle.net.specs.Net.{sameBond, lessBond};
 ghost use Rattle.net.specs.Journal.{common};
+ghost use Rattle.bonds.specs.Ends.{bondsIn};
 ghost use Rattle.marking.specs.Shift.{slot, gap};
-ghost use Rattle.marking.specs.Form.{padded, bondsOf, withBonds, InOrder};
+ghost use Rattle.marking.specs.Form.{withBonds, InOrder};
+ghost use Rattle.marking.specs.Held.{bonded};
 use bonds::has_bond;
 use bonds::rank;
 use net::Base;
@@ -26,98 +29,86 @@ pub struct Marking {
     pub hi: [Base; MAX_BONDS],
 }
 
-// What stands at j in the list a after x was put at k.
-fn at_slot(a: &[Base], k: usize, x: Base, j: usize) -> Base
-    requires { ⌜ j < length (now a) ⌝ }
-    ensures { λ r. ⌜ r ≡ slot k x (λ i. getD (now (a .entry)) i 0) j ⌝ }
+// x goes in at k of the first n; what stood there and after it goes one further.
+// `put_bond` asks with a rank, and where there is room.
+fn insert(a: &mut [Base; MAX_BONDS], n: usize, k: usize, x: Base)
+    requires { ⌜ (k ≤ n) × (n < length (now a)) × (n < maxBonds) ⌝ }
+    ensures { λ _. ⌜
+        now (a .exit) ≡ table (n + 1) (slot k x (λ i. getD (now (a .entry)) i 0)) ++ drop (n + 1) (now (a .entry)) ⌝ }
 {
-    if j < k {
-        a[j]
-    } else {
-        if j == k { x } else { a[j - 1] }
-    }
-}
-
-// The first n of a with x put at k, and zeros after them.
-fn inserted(a: &[Base], n: usize, k: usize, x: Base) -> [Base; MAX_BONDS]
-    requires { ⌜ (k ≤ n) × (n < maxBonds) × (n < length (now a)) ⌝ }
-    ensures { λ r. ⌜ r ≡ padded maxBonds (table (n + 1) (slot k x (λ i. getD (now (a .entry)) i 0))) ⌝ }
-{
-    let mut new = [0u8; MAX_BONDS];
-    let mut j = 0;
+    let mut held = x;
+    let mut j = k;
     while j <= n {
-        new[j] = at_slot(a, k, x, j);
+        let next = a[j];
+        a[j] = held;
+        held = next;
         j += 1;
     }
-    new
 }
 
-// What stands at j in the list a after what stood at k was taken out.
-fn at_gap(a: &[Base], k: usize, j: usize) -> Base
-    requires { ⌜ j + 1 < length (now a) ⌝ }
-    ensures { λ r. ⌜ r ≡ gap k (λ i. getD (now (a .entry)) i 0) j ⌝ }
-{
-    if j < k { a[j] } else { a[j + 1] }
-}
-
-// The first n of a without what stands at k, and zeros after them.
-fn removed(a: &[Base], n: usize, k: usize) -> [Base; MAX_BONDS]
-    requires { ⌜ (0 < n) × (n ≤ maxBonds) × (n ≤ length (now a)) ⌝ }
-    ensures { λ r. ⌜ r ≡ padded maxBonds (table (n - 1) (gap k (λ i. getD (now (a .entry)) i 0))) ⌝ }
+// What stands at k of the first n goes out; what stood after it goes one nearer, and the entry that this frees is 0.
+// `take_bond` asks with the rank of a bond that is there.
+fn remove(a: &mut [Base; MAX_BONDS], n: usize, k: usize)
+    requires { ⌜ (k < n) × (n ≤ length (now a)) × (n ≤ maxBonds) ⌝ }
+    ensures { λ _. ⌜
+        now (a .exit) ≡ table (n - 1) (gap k (λ i. getD (now (a .entry)) i 0)) ++ (0 ∷ drop n (now (a .entry))) ⌝ }
 {
     let last = n - 1;
-    let mut kept = [0u8; MAX_BONDS];
-    let mut j = 0;
+    let mut j = k;
     while j < last {
-        kept[j] = at_gap(a, k, j);
+        a[j] = a[j + 1];
         j += 1;
     }
-    kept
+    a[last] = 0;
 }
 
-// b goes in at its place, unless it is there.
+// b goes in at its place, unless it is there. Answers how many bonds there are then.
 // Callers hold a marking in its form with bonds in strict order; bonds of bases below the limit are at
 // most as many as the arrays hold, so there is room for b.
-pub fn add_bond(m: Marking, b: Bond) -> Marking
-    requires { ⌜ InOrder m × (length (put sameBond lessBond b (bondsOf m)) ≤ maxBonds) ⌝ }
-    ensures { λ r. ⌜ r ≡ withBonds m (put sameBond lessBond b (bondsOf m)) ⌝ }
+pub fn put_bond(
+    lo: &mut [Base; MAX_BONDS],
+    hi: &mut [Base; MAX_BONDS],
+    count: usize,
+    b: Bond,
+) -> usize
+    requires { ⌜ InOrder (bonded count (now lo) (now hi)) ⌝ }
+    requires { ⌜ length (put sameBond lessBond b (bondsIn (now lo) (now hi) count)) ≤ maxBonds ⌝ }
+    ensures { λ r. ⌜
+        bonded r (now (lo .exit)) (now (hi .exit))
+        ≡ withBonds (bonded count (now (lo .entry)) (now (hi .entry)))
+        (put sameBond lessBond b (bondsIn (now (lo .entry)) (now (hi .entry)) count)) ⌝ }
 {
-    let n = m.count;
-    if has_bond(&m.lo, &m.hi, n, b) {
-        return m;
+    if has_bond(lo, hi, count, b) {
+        return count;
     }
-    let k = rank(&m.lo, &m.hi, n, b);
-    let lo = inserted(&m.lo, n, k, b.lo);
-    let hi = inserted(&m.hi, n, k, b.hi);
-    let places = m.places;
-    Marking {
-        places: places,
-        count: n + 1,
-        lo: lo,
-        hi: hi,
-    }
+    let k = rank(lo, hi, count, b);
+    insert(lo, count, k, b.lo);
+    insert(hi, count, k, b.hi);
+    count + 1
 }
 
-// b goes out, and what follows it closes the gap; the entry that this frees is 0.
+// b goes out, if it is there, and what follows it closes the gap. Answers how many bonds there are then.
 // Callers hold a marking in its form with bonds in strict order.
-pub fn remove_bond(m: Marking, b: Bond) -> Marking
-    requires { ⌜ InOrder m ⌝ }
-    ensures { λ r. ⌜ r ≡ withBonds m (keep (λ c. not (sameBond c b)) (bondsOf m)) ⌝ }
+pub fn take_bond(
+    lo: &mut [Base; MAX_BONDS],
+    hi: &mut [Base; MAX_BONDS],
+    count: usize,
+    b: Bond,
+) -> usize
+    requires { ⌜ InOrder (bonded count (now lo) (now hi)) ⌝ }
+    ensures { λ r. ⌜
+        bonded r (now (lo .exit)) (now (hi .exit))
+        ≡ withBonds (bonded count (now (lo .entry)) (now (hi .entry)))
+        (keep (λ c. not (sameBond c b)) (bondsIn (now (lo .entry)) (now (hi .entry)) count)) ⌝ }
 {
-    let n = m.count;
-    if !has_bond(&m.lo, &m.hi, n, b) {
-        return m;
+    let there = has_bond(lo, hi, count, b);
+    if !there {
+        return count;
     }
-    let k = rank(&m.lo, &m.hi, n, b);
-    let lo = removed(&m.lo, n, k);
-    let hi = removed(&m.hi, n, k);
-    let places = m.places;
-    Marking {
-        places: places,
-        count: n - 1,
-        lo: lo,
-        hi: hi,
-    }
+    let k = rank(lo, hi, count, b);
+    remove(lo, count, k);
+    remove(hi, count, k);
+    count - 1
 }
 
 // Whether two sets have a common base. Every flag is looked at: no early exit.

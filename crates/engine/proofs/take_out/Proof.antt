@@ -3,26 +3,32 @@
 use mathlib.Core.Path.{ap, sym, _∙_}
 use borrow.Author.Needs.{needs}
 use Rattle.format.specs.Arcs.{arcsIn}
+use Rattle.marking.specs.declared.Marking.{Marking}
 use Rattle.marking.specs.Form.{bondsOf, withBonds}
+use Rattle.marking.specs.Held.{bonded}
 use Rattle.engine.proofs.Removing.{stays-in, stays-out}
 use Rattle.engine.proofs.take_out.Tie as tie
 use Rattle.engine.proofs.take_out.Statement.{statement}
+
+abbrev m : tie.Start → Marking
+m s = bonded (s .args .count) (s .args .lo .now) (s .args .hi .now)
 
 is-in-bond-requires : tie.Need-is-in-bond-requires
 is-in-bond-requires c κs = search needs
 
 returns : tie.Need-returns
-returns c = let s = (c .before .before .before) in
-    s .pre .form ∙ ap (withBonds (s .args .m)) (sym (stays-in (arcsIn (s .args .step .now)) (s .args .b) (bondsOf (s .args .m))
-    (sym (c .before .is-in-bond .ensures) ∙ c .if1 .taken)))
+returns c =
+    let s = c .before .before .before in
+    s .pre .form ∙ ap (withBonds (m s)) (sym (stays-in (arcsIn (s .args .step .now)) (s .args .b) (bondsOf (m s)) (sym (c .before .is-in-bond .ensures) ∙ c .if1 .taken)))
 
-remove-bond-requires : tie.Need-remove-bond-requires
-remove-bond-requires c κs = search needs
+take-bond-requires : tie.Need-take-bond-requires
+take-bond-requires c κs = c .before .before .before .before .before .pre
 
 returns-2 : tie.Need-returns-2
-returns-2 c = let s = (c .before .before .before .before) in
-    c .remove-bond .ensures ∙ ap (withBonds (s .args .m)) (sym (stays-out (arcsIn (s .args .step .now)) (s .args .b) (bondsOf (s .args .m))
-    (sym (c .before .before .is-in-bond .ensures) ∙ c .before .if1 .left)))
+returns-2 c =
+    let e : tie.Else1 = c .before .before .before in
+    let s = e .before .before .before in
+    c .take-bond .ensures ∙ ap (withBonds (m s)) (sym (stays-out (arcsIn (s .args .step .now)) (s .args .b) (bondsOf (m s)) (sym (e .before .is-in-bond .ensures) ∙ e .if1 .left)))
 
 pub take-out-spec : {M : Type 1} → statement M
-take-out-spec = tie.close (tie.spec is-in-bond-requires returns remove-bond-requires returns-2)
+take-out-spec = tie.close (tie.spec is-in-bond-requires returns take-bond-requires returns-2)
