@@ -11,14 +11,14 @@ use Rattle.text.specs.Ascii.{ascii}
 
 -- a number, with the space before it
 abbrev pub item : ℕ → List ℕ
-item n = 32 ∷ decimal n
+item n = ascii " " ++ decimal n
 
 abbrev pub items : List ℕ → List ℕ
 items ns = joined (map item ns)
 
 -- a word, the numbers, the newline
 abbrev pub row : List ℕ → List ℕ → List ℕ
-row word ns = word ++ items ns ++ (10 ∷ [])
+row word ns = word ++ items ns ++ ascii "\n"
 
 -- ---- The lines, in the order in which they are written
 
