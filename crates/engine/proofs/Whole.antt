@@ -20,7 +20,7 @@ use Rattle.net.proofs.Sorted.{has-keep, ascending-keep}
 use Rattle.net.proofs.Bonds.{bond-order}
 use Rattle.marking.specs.declared.Marking.{Marking}
 use Rattle.marking.specs.Form.{padded, los, his, bondsOf, markingOf, withBonds, laid}
-use Rattle.marking.specs.Held.{holding, bonded}
+use Rattle.marking.specs.Held.{holding, holdingBonds}
 use Rattle.marking.proofs.Forms.{bonds-with}
 use Rattle.groups.specs.Groups.{firsts, labelIn, side}
 use Rattle.enabling.specs.Ready.{Ready}
@@ -58,7 +58,7 @@ module _ (n : ℕ) (t : Arcs) (m : Marking) (R : Ready n t m) where
 
   pub fire-made : (l : List ℕ) → l ≡ table maxBases (label (bondsOf m))
       → (ps : List ℕ) → ps ≡ table maxBases (λ p. firsts (side false) (labelIn l) (t .entries) (getD (m .places) p 0) (labelIn l p))
-      → (c : ℕ) (lo hi : List ℕ) → bonded c lo hi ≡ withBonds (bonded (m .count) (m .lo) (m .hi)) (puts sameBond lessBond (t .outBonds) (bondsOf m))
+      → (c : ℕ) (lo hi : List ℕ) → holdingBonds c lo hi ≡ withBonds (holdingBonds (m .count) (m .lo) (m .hi)) (puts sameBond lessBond (t .outBonds) (bondsOf m))
       → holding ps c lo hi ≡ laid (fire n t (markingOf n m))
   fire-made l el ps ep c lo hi q = λ i. record { places = (ep ∙ sent-all n t m R l el false (λ p. true)) i; count = q i .count; lo = q i .lo; hi = q i .hi }
 

@@ -11,7 +11,7 @@ ghost use Rattle.net.specs.Firing.{fire, undo, newBond};
 ghost use Rattle.format.specs.Arcs.{arcsIn};
 ghost use Rattle.bonds.specs.Ends.{bondsIn};
 ghost use Rattle.marking.specs.Form.{markingOf, withBonds, laid, InOrder};
-ghost use Rattle.marking.specs.Held.{holding, bonded};
+ghost use Rattle.marking.specs.Held.{holding, holdingBonds};
 ghost use Rattle.enabling.specs.Ready.{Ready};
 ghost use Rattle.engine.specs.Change.{HasRoom, stays};
 use bonds::labels;
@@ -37,10 +37,10 @@ fn put_out_bonds(
     hi: &mut [Base; MAX_BONDS],
     count: usize,
 ) -> usize
-    requires { ⌜ HasRoom (arcsIn (now step)) (bonded count (now lo) (now hi)) ⌝ }
+    requires { ⌜ HasRoom (arcsIn (now step)) (holdingBonds count (now lo) (now hi)) ⌝ }
     ensures { λ r. ⌜
-        bonded r (now (lo .exit)) (now (hi .exit))
-        ≡ withBonds (bonded count (now (lo .entry)) (now (hi .entry)))
+        holdingBonds r (now (lo .exit)) (now (hi .exit))
+        ≡ withBonds (holdingBonds count (now (lo .entry)) (now (hi .entry)))
         (puts sameBond lessBond (arcsIn (now (step .entry)) .outBonds) (bondsIn (now (lo .entry)) (now (hi .entry)) count)) ⌝ }
 {
     let mut held = count;
@@ -62,10 +62,10 @@ fn take_out(
     count: usize,
     b: Bond,
 ) -> usize
-    requires { ⌜ InOrder (bonded count (now lo) (now hi)) ⌝ }
+    requires { ⌜ InOrder (holdingBonds count (now lo) (now hi)) ⌝ }
     ensures { λ r. ⌜
-        bonded r (now (lo .exit)) (now (hi .exit))
-        ≡ withBonds (bonded count (now (lo .entry)) (now (hi .entry)))
+        holdingBonds r (now (lo .exit)) (now (hi .exit))
+        ≡ withBonds (holdingBonds count (now (lo .entry)) (now (hi .entry)))
         (keep (stays (arcsIn (now (step .entry))) b) (bondsIn (now (lo .entry)) (now (hi .entry)) count)) ⌝ }
 {
     let kept = is_in_bond(step, b);
@@ -83,10 +83,10 @@ fn take_new_bonds(
     hi: &mut [Base; MAX_BONDS],
     count: usize,
 ) -> usize
-    requires { ⌜ InOrder (bonded count (now lo) (now hi)) ⌝ }
+    requires { ⌜ InOrder (holdingBonds count (now lo) (now hi)) ⌝ }
     ensures { λ r. ⌜
-        bonded r (now (lo .exit)) (now (hi .exit))
-        ≡ withBonds (bonded count (now (lo .entry)) (now (hi .entry)))
+        holdingBonds r (now (lo .exit)) (now (hi .exit))
+        ≡ withBonds (holdingBonds count (now (lo .entry)) (now (hi .entry)))
         (keep (λ c. not (newBond (arcsIn (now (step .entry))) c)) (bondsIn (now (lo .entry)) (now (hi .entry)) count)) ⌝ }
 {
     let made = out_count(step);

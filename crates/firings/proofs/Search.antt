@@ -1,4 +1,4 @@
--- Laws of searches through the live firings: a key found or not, and a test gathered with "or".
+-- Laws of searches through the live firings: a key found or not, a test gathered with "or", the keys as those of the lines.
 -- Assumes nothing.
 use mathlib.Core.Path.{_≡_, sym, _∙_, ap}
 use mathlib.Core.Bool.{Bool, _||_}
@@ -14,7 +14,12 @@ use Rattle.net.specs.declared.Key.{Key}
 use Rattle.net.specs.Tests.{pick, any, table}
 use Rattle.net.proofs.Tests.{any-append}
 use Rattle.net.proofs.Tables.{length-table, getD-table}
+use Rattle.net.specs.Journal.{LiveLine, lineKeys}
+use Rattle.bonds.proofs.Fill.{map-table}
+use Rattle.firings.specs.Lines.{past, asLine, linesIn}
+use Rattle.firings.specs.Form.{liveKeys}
 use Rattle.firings.specs.Search.{indexOf}
+use Rattle.firings.specs.declared.Firing.{Firing}
 
 -- ---- a key
 
@@ -43,3 +48,8 @@ module _ (key : Key) (f : ℕ → ℕ) (n : ℕ) where
 
 pub any-taken : {X : Type 0} (t : X → Bool) (l : List X) (d : X) (i : ℕ) (found x : Bool) → i < length l → found ≡ any t (take i l) → x ≡ any t (getD l i d ∷ []) → (found || x) ≡ any t (take (i + 1) l)
 any-taken t l d i found x h e q = (λ j. e j || q j) ∙ sym (any-append t (take i l) (getD l i d ∷ [])) ∙ ap (any t) (sym (take-suc l i d h)) ∙ ap (λ (n : ℕ). any t (take n l)) (sym (add-one i))
+
+-- ---- the live keys are the keys of the lines that the firings hold
+
+pub keys-of-lines : (n k : ℕ) (fs : List Firing) → liveKeys k fs ≡ lineKeys (linesIn n k fs)
+keys-of-lines n k fs = sym (map-table (λ (l : LiveLine). l .key .0) k (λ i. asLine n (getD fs i past)))

@@ -11,7 +11,7 @@ use Rattle.net.specs.Tests.{table}
 use Rattle.net.proofs.Tables.{length-table}
 use Rattle.marking.specs.declared.Marking.{Marking}
 use Rattle.marking.specs.Form.{padded, los, his, bondsOf, InOrder}
-use Rattle.marking.specs.Held.{bonded}
+use Rattle.marking.specs.Held.{holdingBonds}
 use Rattle.marking.proofs.Padding.{drop-replicate, length-padded}
 
 -- behind n elements there are zeros
@@ -64,5 +64,5 @@ module _ (m : Marking) where
   hi-less I h g now q = less-padded g (m .count) maxBonds (his (bondsOf m)) (m .hi) now h (I .room) length-his (ap (λ (x : Marking). x .hi) (I .form)) q
 
   -- the bonds alone are in order where the marking's are
-  pub bonds-order : InOrder m → InOrder (bonded (m .count) (m .lo) (m .hi))
-  bonds-order I = record { room = I .room; form = ap (λ (x : Marking). bonded (x .count) (x .lo) (x .hi)) (I .form); order = I .order }
+  pub bonds-order : InOrder m → InOrder (holdingBonds (m .count) (m .lo) (m .hi))
+  bonds-order I = record { room = I .room; form = ap (λ (x : Marking). holdingBonds (x .count) (x .lo) (x .hi)) (I .form); order = I .order }

@@ -9,5 +9,5 @@ abbrev pub holding : List ℕ → ℕ → List ℕ → List ℕ → Marking
 holding places count lo hi = record { places = places; count = count; lo = lo; hi = hi }
 
 -- the bonds alone: a marking of no places
-abbrev pub bonded : ℕ → List ℕ → List ℕ → Marking
-bonded count lo hi = holding [] count lo hi
+abbrev pub holdingBonds : ℕ → List ℕ → List ℕ → Marking
+holdingBonds count lo hi = holding [] count lo hi

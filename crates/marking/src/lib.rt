@@ -13,7 +13,7 @@ ghost use Rattle.net.specs.Journal.{common};
 ghost use Rattle.bonds.specs.Ends.{bondsIn};
 ghost use Rattle.marking.specs.Shift.{slot, gap};
 ghost use Rattle.marking.specs.Form.{withBonds, InOrder};
-ghost use Rattle.marking.specs.Held.{bonded};
+ghost use Rattle.marking.specs.Held.{holdingBonds};
 use bonds::has_bond;
 use bonds::rank;
 use net::Base;
@@ -71,11 +71,11 @@ pub fn put_bond(
     count: usize,
     b: Bond,
 ) -> usize
-    requires { ⌜ InOrder (bonded count (now lo) (now hi)) ⌝ }
+    requires { ⌜ InOrder (holdingBonds count (now lo) (now hi)) ⌝ }
     requires { ⌜ length (put sameBond lessBond b (bondsIn (now lo) (now hi) count)) ≤ maxBonds ⌝ }
     ensures { λ r. ⌜
-        bonded r (now (lo .exit)) (now (hi .exit))
-        ≡ withBonds (bonded count (now (lo .entry)) (now (hi .entry)))
+        holdingBonds r (now (lo .exit)) (now (hi .exit))
+        ≡ withBonds (holdingBonds count (now (lo .entry)) (now (hi .entry)))
         (put sameBond lessBond b (bondsIn (now (lo .entry)) (now (hi .entry)) count)) ⌝ }
 {
     if has_bond(lo, hi, count, b) {
@@ -95,10 +95,10 @@ pub fn take_bond(
     count: usize,
     b: Bond,
 ) -> usize
-    requires { ⌜ InOrder (bonded count (now lo) (now hi)) ⌝ }
+    requires { ⌜ InOrder (holdingBonds count (now lo) (now hi)) ⌝ }
     ensures { λ r. ⌜
-        bonded r (now (lo .exit)) (now (hi .exit))
-        ≡ withBonds (bonded count (now (lo .entry)) (now (hi .entry)))
+        holdingBonds r (now (lo .exit)) (now (hi .exit))
+        ≡ withBonds (holdingBonds count (now (lo .entry)) (now (hi .entry)))
         (keep (λ c. not (sameBond c b)) (bondsIn (now (lo .entry)) (now (hi .entry)) count)) ⌝ }
 {
     let there = has_bond(lo, hi, count, b);

@@ -1,7 +1,7 @@
 -- The journal (01, the session book): fed the net and the commands' bytes alone, it says what a session is.
 -- Definitions only. Numbers and checking order are those of 01's turned-away list.
 use mathlib.Core.Bool.{Bool, false, not, _&&_, _||_}
-use mathlib.Core.List.{List, [], _∷_, _++_}
+use mathlib.Core.List.{List, [], _∷_, _++_, map}
 use Prim.Native.Nat.{ℕ, suc, max, _+_, _*_}
 use lib.Dec.{eqb, ltb, leb}
 use lib.ListN.{getD, length}
@@ -64,6 +64,10 @@ unreadable c =
     not (eqb (kindOf c) 1 || (eqb (kindOf c) 2 || eqb (kindOf c) 3)) || (eqb (kindOf c) 2 && not (eqb (numberOf c) 0))
 
 -- ---- Keys and lines
+
+-- the keys of lines, in their order
+abbrev pub lineKeys : List LiveLine → List ℕ
+lineKeys ls = map (λ (l : LiveLine). l .key .0) ls
 
 -- the highest live key; 0 where none is live
 abbrev pub highestLive : List LiveLine → Key

@@ -1,6 +1,6 @@
 -- Laws of the closing lines of what a record holds: how long they are, and that the four writers leave them.
 -- Assumes nothing.
-use mathlib.Core.Path.{_≡_, refl, sym, ap, _∙_}
+use mathlib.Core.Path.{_≡_, refl, ap, _∙_}
 use mathlib.Core.List.{List, [], _∷_}
 use Prim.Native.Nat.{ℕ, zero, suc, _+_, _*_, _≤_}
 use native.Mathlib.Omega.{arith}
@@ -8,11 +8,9 @@ use native.Mathlib.Nat.{le-of-suc-le-suc}
 use lib.ListN.{length, getD, take}
 use Rattle.net.specs.Limits.{maxBases, maxLive}
 use Rattle.net.specs.Tests.{table}
-use Rattle.net.specs.Journal.{LiveLine}
 use Rattle.bonds.specs.Ends.{bondsIn}
-use Rattle.bonds.proofs.Fill.{map-table}
 use Rattle.marking.specs.declared.Marking.{Marking}
-use Rattle.firings.specs.Lines.{past, asLine, linesIn}
+use Rattle.firings.specs.Lines.{past}
 use Rattle.firings.specs.declared.Firing.{Firing}
 use Rattle.sound.specs.Soundness.{journalIn}
 use Rattle.tally.specs.declared.Tally.{Tally}
@@ -21,8 +19,10 @@ use Rattle.text.specs.Ascii.{ascii}
 use Rattle.text.proofs.Writes.{written-none, written-more, written-pair}
 use Rattle.closing.specs.Closing.{itemRoom, bondRoom, placesLine, bondLines, liveLine, tallyLine}
 use Rattle.closing.proofs.Lines.{row-length, bonds-table, bonds-upto}
-use Rattle.output.specs.Output.{keysLive, closingOf}
-use Rattle.output.specs.Said.{keysIn, placesRoom, liveRoom}
+use Rattle.output.specs.Output.{closingOf}
+use Rattle.output.specs.Said.{placesRoom, liveRoom}
+use Rattle.firings.specs.Form.{liveKeys}
+use Rattle.firings.proofs.Search.{keys-of-lines}
 
 -- ---- Lengths
 
@@ -47,22 +47,18 @@ take-table (suc n) zero f h = absurd (omega arith)
 take-table (suc n) (suc m) f h = ap (λ (l : List _). f zero ∷ l) (take-table n m (λ k. f (suc k)) (le-of-suc-le-suc h))
 
 -- the first n of all keys
-pub keys-first : (fs : List Firing) (n : ℕ) (ks : List ℕ) → n ≤ maxLive → ks ≡ keysIn fs maxLive → take n ks ≡ keysIn fs n
+pub keys-first : (fs : List Firing) (n : ℕ) (ks : List ℕ) → n ≤ maxLive → ks ≡ liveKeys maxLive fs → take n ks ≡ liveKeys n fs
 keys-first fs n ks h e = ap (take n) e ∙ take-table n maxLive (λ i. getD fs i past .key .0) h
-
--- the keys of the first firings are those of the lines that they hold
-keys-of-lines : (b k : ℕ) (fs : List Firing) → keysIn fs k ≡ keysLive (linesIn b k fs)
-keys-of-lines b k fs = sym (map-table (λ (l : LiveLine). l .key .0) k (λ i. asLine b (getD fs i past)))
 
 -- ---- The whole
 
 -- the four writers, one after the other, leave the closing lines
 pub closing-pieces : (b : List ℕ) {b₁ b₂ b₃ b₄ : List ℕ} (at : ℕ) {k₁ k₂ k₃ k₄ : ℕ} (n : ℕ) (m : Marking) (k : ℕ) (fs : List Firing) (t : Tally)
-    → Wrote (placesLine (take n (m .places))) at b k₁ b₁ → Wrote (bondLines (bondsIn (m .lo) (m .hi) (m .count))) k₁ b₁ k₂ b₂ → Wrote (liveLine (keysIn fs k)) k₂ b₂ k₃ b₃
+    → Wrote (placesLine (take n (m .places))) at b k₁ b₁ → Wrote (bondLines (bondsIn (m .lo) (m .hi) (m .count))) k₁ b₁ k₂ b₂ → Wrote (liveLine (liveKeys k fs)) k₂ b₂ k₃ b₃
     → Wrote (tallyLine (t .fired) (t .undone) (t .refused)) k₃ b₃ k₄ b₄
     → Wrote (closingOf (journalIn n m k fs) t) at b k₄ b₄
 unfolding closingOf
 closing-pieces b at n m k fs t w₁ w₂ w₃ w₄ =
-    let all = written-more (tallyLine (t .fired) (t .undone) (t .refused)) (written-more (liveLine (keysIn fs k)) (written-more (bondLines (bondsIn (m .lo) (m .hi) (m .count))) (written-more (placesLine (take n (m .places))) (written-none b at) w₁) w₂) w₃) w₄ in
+    let all = written-more (tallyLine (t .fired) (t .undone) (t .refused)) (written-more (liveLine (liveKeys k fs)) (written-more (bondLines (bondsIn (m .lo) (m .hi) (m .count))) (written-more (placesLine (take n (m .places))) (written-none b at) w₁) w₂) w₃) w₄ in
     let e = keys-of-lines n k fs in
     rw (← e) (written-pair all)

@@ -1,13 +1,13 @@
 -- The whole output of the exam program, of the bytes of its input (01, the exam program), over the journal.
 -- Definitions only.
-use mathlib.Core.List.{List, [], _∷_, _++_, map}
+use mathlib.Core.List.{List, [], _∷_, _++_}
 use Prim.Native.Nat.{ℕ, suc, _+_, _*_}
 use lib.ListN.{take, drop}
 use Rattle.net.specs.Tests.{pick}
 use Rattle.net.specs.Checks.{clear, first}
 use Rattle.net.specs.Net.{Net}
 use Rattle.net.specs.Journal as J
-use Rattle.net.specs.Journal.{LiveLine, Journal, begin, play, answers}
+use Rattle.net.specs.Journal.{Journal, lineKeys, begin, play, answers}
 use Rattle.format.specs.Bytes.{wordAt}
 use Rattle.format.specs.NetOf.{netOf}
 use Rattle.sheet.specs.Checks.{sheetChecks}
@@ -55,13 +55,9 @@ abbrev pub tallied : List J.Answer → Tally → Tally
 tallied [] t = t
 tallied (a ∷ rest) t = tallied rest (countedOf t (wordOf (answerOf a)))
 
--- the serials of the live firings, in their order
-abbrev pub keysLive : List LiveLine → List ℕ
-keysLive ls = map (λ (l : LiveLine). l .key .0) ls
-
 -- places, bonds, live firings, tally
 unfoldable pub closingOf : Journal → Tally → List ℕ
-closingOf j t = placesLine (j .marking .places) ++ bondLines (j .marking .bonds) ++ liveLine (keysLive (j .lines)) ++ tallyLine (t .fired) (t .undone) (t .refused)
+closingOf j t = placesLine (j .marking .places) ++ bondLines (j .marking .bonds) ++ liveLine (lineKeys (j .lines)) ++ tallyLine (t .fired) (t .undone) (t .refused)
 
 unfoldable pub sessionText : Net → List (List ℕ) → List ℕ
 sessionText net cs = answerLines 0 (answers net cs (begin net)) ++ closingOf (play net cs (begin net)) (tallied (answers net cs (begin net)) zeroTally)

@@ -5,8 +5,6 @@ use Prim.Native.Nat.{ℕ, _+_, _*_, _<_}
 use lib.ListN.{getD}
 use Rattle.net.specs.Limits.{maxBases, maxBonds, maxLive}
 use Rattle.net.specs.Tests.{table}
-use Rattle.firings.specs.Lines.{past}
-use Rattle.firings.specs.declared.Firing.{Firing}
 use Rattle.text.specs.Joined.{joined}
 use Rattle.closing.specs.Closing.{itemRoom, bondRoom}
 use Rattle.report.specs.Lines.{answerLine, minLine, LowValue}
@@ -23,10 +21,6 @@ linesUpto words values n = joined (table n (lineAt words values))
 -- the refusals among the first n have numbers that a line has room for
 abbrev pub LowValues : List ℕ → List ℕ → ℕ → Type 0
 LowValues words values n = (i : ℕ) → i < n → LowValue (getD words i 0) (getD values i 0)
-
--- the keys of the first n firings of an array
-abbrev pub keysIn : List Firing → ℕ → List ℕ
-keysIn fs n = table n (λ i. getD fs i past .key .0)
 
 -- the room for the closing lines, and for the whole output
 abbrev pub placesRoom : ℕ

@@ -8,6 +8,7 @@ ghost use Rattle.net.specs.Limits.{maxBases, maxBonds, maxLive};
 ghost use Rattle.net.specs.Checks.{clear};
 ghost use Rattle.format.specs.NetOf.{netOf};
 ghost use Rattle.sheet.specs.Checks.{sheetChecks};
+ghost use Rattle.firings.specs.Form.{liveKeys};
 ghost use Rattle.closing.specs.Closing.{placesLine, liveLine};
 ghost use Rattle.sound.specs.Soundness.{journalIn};
 ghost use Rattle.session.specs.Commands.{freshOf};
@@ -15,7 +16,7 @@ ghost use Rattle.runs.specs.Lists.{commandsIn};
 ghost use Rattle.text.specs.Writes.{Wrote, Filled};
 ghost use Rattle.report.specs.Lines.{minLine};
 ghost use Rattle.output.specs.Output.{maxCommands, sheetIn, commandBytes, refusedSheet, closingOf, sessionText, output};
-ghost use Rattle.output.specs.Said.{linesUpto, LowValues, keysIn, placesRoom, liveRoom, closingRoom, maxOutput};
+ghost use Rattle.output.specs.Said.{linesUpto, LowValues, placesRoom, liveRoom, closingRoom, maxOutput};
 use closing::put_bonds;
 use closing::put_live;
 use closing::put_places;
@@ -102,7 +103,7 @@ fn widened(places: [Place; MAX_BASES]) -> [u16; MAX_BASES]
 
 // The keys of the firings.
 fn keys_of(firings: [Firing; MAX_LIVE]) -> [u16; MAX_LIVE]
-    ensures { λ r. ⌜ r ≡ keysIn firings maxLive ⌝ }
+    ensures { λ r. ⌜ r ≡ liveKeys maxLive firings ⌝ }
 {
     let mut keys = [0u16; MAX_LIVE];
     let mut i = 0;
@@ -127,7 +128,7 @@ fn put_base_places(buf: &mut [u8], at: usize, places: [Place; MAX_BASES], n: usi
 // `live` and the keys of the first n firings.
 fn put_live_keys(buf: &mut [u8], at: usize, firings: [Firing; MAX_LIVE], n: usize) -> usize
     requires { ⌜ (at + liveRoom ≤ length (now buf)) × (n ≤ maxLive) ⌝ }
-    ensures { λ r. ⌜ Wrote (liveLine (keysIn firings n)) at (now (buf .entry)) r (now (buf .exit)) ⌝ }
+    ensures { λ r. ⌜ Wrote (liveLine (liveKeys n firings)) at (now (buf .entry)) r (now (buf .exit)) ⌝ }
     ensures { λ r. ⌜ r ≤ at + liveRoom ⌝ }
 {
     let keys = keys_of(firings);

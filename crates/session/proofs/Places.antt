@@ -13,13 +13,10 @@ use Rattle.causal.specs.Lists.{Mem}
 use Rattle.net.specs.Limits.{maxBases}
 use Rattle.net.specs.Tests.{pick}
 use Rattle.net.specs.Journal as J
-use Rattle.net.specs.Journal.{LiveLine, sameKey, isLive, common, builtOn}
+use Rattle.net.specs.Journal.{LiveLine, lineKeys, sameKey, isLive, common, builtOn}
 use Rattle.net.specs.declared.Key.{Key}
 use Rattle.firings.specs.Lines.{firingOf}
 use Rattle.firings.specs.Search.{indexOf, builtOnIn}
-
-abbrev pub lineKeys : List LiveLine → List ℕ
-lineKeys ls = map (λ (l : LiveLine). l .key .0) ls
 
 -- ---- a key's place
 

@@ -17,15 +17,14 @@ use Rattle.net.specs.Net.{Net, arcsOf}
 use Rattle.net.specs.Firing.{undo, Fires}
 use Rattle.net.specs.Checks.{clear, first}
 use Rattle.net.specs.Journal as J
-use Rattle.net.specs.Journal.{LiveLine, Journal, transition, builtOn, without, undoChecks, undoReply, noLine}
+use Rattle.net.specs.Journal.{LiveLine, Journal, transition, builtOn, without, undoChecks, undoReply, noLine, lineKeys}
 use Rattle.net.specs.declared.Key.{Key}
 use Rattle.net.proofs.Keys.{Up, without-split}
-use Rattle.bonds.proofs.Fill.{map-table}
 use Rattle.format.specs.Parts.{basesOf, transitionsOf}
 use Rattle.format.specs.NetOf.{netOf}
 use Rattle.marking.specs.Form.{markingOf, laid}
 use Rattle.marking.specs.declared.Marking.{Marking}
-use Rattle.firings.specs.Lines.{past, asLine, firingOf, firingsOf, closedUp}
+use Rattle.firings.specs.Lines.{past, firingOf, firingsOf, closedUp}
 use Rattle.firings.specs.Form.{liveKeys}
 use Rattle.firings.specs.Search.{indexOf, builtOnIn}
 use Rattle.firings.specs.declared.Firing.{Firing}
@@ -38,8 +37,9 @@ use Rattle.session.specs.Commands.{refusal, outcomeOf, undoOutcome}
 use Rattle.session.specs.declared.Record.{Record}
 use Rattle.session.specs.declared.Answer.the-variants.{Undone}
 use Rattle.session.proofs.Sounds.{held, live-is, firings-are}
-use Rattle.session.proofs.Places.{lineKeys, place-most, place-dead, Found, place-found, built-lines}
+use Rattle.session.proofs.Places.{place-most, place-dead, Found, place-found, built-lines}
 use Rattle.session.proofs.Fits.{run-flags}
+use Rattle.firings.proofs.Search.{keys-of-lines}
 
 -- each line of a run is of a transition on the sheet
 run-listed : (net : Net) (ls : List LiveLine) (a z : Net.Marking) → Run (Fires net) a ls z → (l : LiveLine) → Mem l ls → l .transition .0 < length (net .transitions)
@@ -60,7 +60,7 @@ module _ (s : List ℕ) (r : Record) (k : Key) (S : Sound s r) where
 
   module _ (i : ℕ) (ei : i ≡ indexOf k (liveKeys (r .live) (r .firings))) where
     place-is : i ≡ indexOf k (lineKeys ls)
-    place-is = ei ∙ ap (indexOf k) (sym (map-table (λ (l : LiveLine). l .key .0) (r .live) (λ x. asLine (basesOf s) (getD (r .firings) x past))))
+    place-is = ei ∙ ap (indexOf k) (keys-of-lines (basesOf s) (r .live) (r .firings))
 
     pub dead : r .live ≤ i → refusal r 19 ≡ undoOutcome s r k
     dead h =

@@ -4,15 +4,12 @@ use mathlib.Core.Path.{_≡_, sym, _∙_, ap}
 use mathlib.Core.Bool.{Bool, false}
 use mathlib.Core.List.{List}
 use Prim.Native.Nat.{ℕ}
-use lib.Dec.{eqb}
 use lib.ListN.{replicate}
-use borrow.Author.Tests.{ne-eqb}
 use Rattle.net.specs.Limits.{maxBases, maxBonds, maxLive}
 use Rattle.net.specs.Tests.{pick}
 use Rattle.net.specs.Checks.{clear, first}
 use Rattle.format.specs.NetOf.{startMarking, netOf}
 use Rattle.sheet.specs.Checks.{sheetChecks}
-use Rattle.sheet.proofs.Order.{clear-first}
 use Rattle.marking.specs.Form.{laid}
 use Rattle.marking.specs.declared.Marking.{Marking}
 use Rattle.firings.specs.Lines.{noFiring}
@@ -21,7 +18,7 @@ use Rattle.session.specs.Records.{recordOf}
 use Rattle.session.specs.Commands.{freshOf, zeroRecord, startOf}
 use Rattle.session.specs.declared.Record.{Record}
 use Rattle.session.specs.declared.StartAnswer.the-variants.{Started, NotStarted}
-use Rattle.session.proofs.Answering.{sheet-positive, sheet-clear}
+use Rattle.session.proofs.Answering.{sheet-clear, sheet-held}
 
 -- zeros in every array
 pub zeros : (f : Firing) → f ≡ noFiring
@@ -33,7 +30,7 @@ module _ (s : List ℕ) (n : ℕ) (e : n ≡ first (sheetChecks s)) where
   pub refused : (r : Record) → (n ≡ 0 → ⊥) → r ≡ zeroRecord → record { answer = NotStarted n; session = r } ≡ startOf s
   unfolding startOf
   refused r h z =
-      let q : clear (sheetChecks s) ≡ false = clear-first (sheetChecks s) (sheet-positive s) ∙ ap (λ (k : ℕ). eqb k 0) (sym e) ∙ ne-eqb n 0 h in
+      let q : clear (sheetChecks s) ≡ false = sheet-held s n e h in
       (λ i. record { answer = NotStarted (e i); session = z i }) ∙ sym (ap (λ (b : Bool). pick b (record { answer = Started; session = freshOf s }) (record { answer = NotStarted (first (sheetChecks s)); session = zeroRecord })) q)
 
   pub started : (m : Marking) (f : Firing) → n ≡ 0 → m ≡ laid (startMarking s) → f ≡ noFiring → record { answer = Started; session = record { marking = m; live = 0; firings = replicate maxLive f } } ≡ startOf s

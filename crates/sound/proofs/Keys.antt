@@ -1,23 +1,22 @@
 -- The keys of the live firings, climbing, are the keys of the lines in order.
 -- Assumes nothing.
-use mathlib.Core.Path.{_≡_, refl, sym, _∙_, ap}
+use mathlib.Core.Path.{_≡_, refl, _∙_, ap}
 use mathlib.Core.Bool.{Bool, true, _&&_}
-use mathlib.Core.List.{List, [], _∷_, map}
+use mathlib.Core.List.{List, [], _∷_}
 use Prim.Native.Nat.{ℕ, _<_}
 use native.Mathlib.Omega.{arith}
 use lib.Dec.{ltb, leb}
-use lib.ListN.{getD}
 use borrow.Author.Tests.{ltb-true, lt-ltb}
 use Rattle.net.specs.Limits.{maxKey}
 use Rattle.net.specs.Tests.{all}
 use Rattle.net.specs.Sorted.{ascends}
-use Rattle.net.specs.Journal.{LiveLine}
+use Rattle.net.specs.Journal.{LiveLine, lineKeys}
 use Rattle.net.specs.History.{keysInOrder}
 use Rattle.net.proofs.Tests.{same-test, and-l, and-r, and-i}
-use Rattle.bonds.proofs.Fill.{map-table}
-use Rattle.firings.specs.Lines.{past, asLine, linesIn}
+use Rattle.firings.specs.Lines.{linesIn}
 use Rattle.firings.specs.Form.{liveKeys, climbs}
 use Rattle.firings.specs.declared.Firing.{Firing}
+use Rattle.firings.proofs.Search.{keys-of-lines}
 
 abbrev keyBelow : LiveLine → LiveLine → Bool
 keyBelow l k = ltb (l .key .0) (k .key .0)
@@ -25,10 +24,7 @@ keyBelow l k = ltb (l .key .0) (k .key .0)
 abbrev inRange : LiveLine → Bool
 inRange l = ltb 0 (l .key .0) && leb (l .key .0) maxKey
 
-abbrev keys : List LiveLine → List ℕ
-keys ls = map (λ (l : LiveLine). l .key .0) ls
-
-climbs-range : (last : ℕ) (ls : List LiveLine) → climbs last (keys ls) ≡ true → all inRange ls ≡ true
+climbs-range : (last : ℕ) (ls : List LiveLine) → climbs last (lineKeys ls) ≡ true → all inRange ls ≡ true
 climbs-range last [] h = refl
 climbs-range last (l ∷ ls) h =
     let a : (ltb last (l .key .0) && leb (l .key .0) maxKey) ≡ true = and-l _ _ h in
@@ -37,19 +33,19 @@ climbs-range last (l ∷ ls) h =
     and-i (inRange l) (all inRange ls) (and-i (ltb 0 (l .key .0)) (leb (l .key .0) maxKey) (lt-ltb 0 (l .key .0) c) (and-r (ltb last (l .key .0)) _ a))
     (climbs-range (l .key .0) ls (and-r (ltb last (l .key .0) && leb (l .key .0) maxKey) _ h))
 
-climbs-ascends : (last : ℕ) (ls : List LiveLine) → climbs last (keys ls) ≡ true → ascends keyBelow ls ≡ true
+climbs-ascends : (last : ℕ) (ls : List LiveLine) → climbs last (lineKeys ls) ≡ true → ascends keyBelow ls ≡ true
 climbs-ascends last [] h = refl
 climbs-ascends last (l ∷ []) h = refl
 climbs-ascends last (l ∷ k ∷ ls) h =
-    let rest : climbs (l .key .0) (keys (k ∷ ls)) ≡ true = and-r (ltb last (l .key .0) && leb (l .key .0) maxKey) _ h in
+    let rest : climbs (l .key .0) (lineKeys (k ∷ ls)) ≡ true = and-r (ltb last (l .key .0) && leb (l .key .0) maxKey) _ h in
     and-i (keyBelow l k) (ascends keyBelow (k ∷ ls)) (and-l _ _ (and-l (keyBelow l k && leb (k .key .0) maxKey) _ rest)) (climbs-ascends (l .key .0) (k ∷ ls) rest)
 
-ascends-climbs : (last : ℕ) (l : LiveLine) (ls : List LiveLine) → ltb last (l .key .0) ≡ true → ascends keyBelow (l ∷ ls) ≡ true → all inRange (l ∷ ls) ≡ true → climbs last (keys (l ∷ ls)) ≡ true
+ascends-climbs : (last : ℕ) (l : LiveLine) (ls : List LiveLine) → ltb last (l .key .0) ≡ true → ascends keyBelow (l ∷ ls) ≡ true → all inRange (l ∷ ls) ≡ true → climbs last (lineKeys (l ∷ ls)) ≡ true
 ascends-climbs last l [] e a r = rw (e, and-r (ltb 0 (l .key .0)) _ (and-l (inRange l) _ r))
 ascends-climbs last l (k ∷ ls) e a r =
     rw (e, and-r (ltb 0 (l .key .0)) _ (and-l (inRange l) _ r)) (ascends-climbs (l .key .0) k ls (and-l _ _ a) (and-r (keyBelow l k) _ a) (and-r (inRange l) _ r))
 
-order-climbs : (ls : List LiveLine) → keysInOrder ls ≡ true → climbs 0 (keys ls) ≡ true
+order-climbs : (ls : List LiveLine) → keysInOrder ls ≡ true → climbs 0 (lineKeys ls) ≡ true
 order-climbs [] h = refl
 order-climbs (l ∷ ls) h =
     let r : all inRange (l ∷ ls) ≡ true = and-r (ascends keyBelow (l ∷ ls)) _ h in
@@ -58,5 +54,5 @@ order-climbs (l ∷ ls) h =
 pub keys-order : (n k : ℕ) (fs : List Firing) → climbs 0 (liveKeys k fs) ≡ keysInOrder (linesIn n k fs)
 keys-order n k fs =
     let ls : List LiveLine = linesIn n k fs in
-    let same : liveKeys k fs ≡ keys ls = sym (map-table (λ (l : LiveLine). l .key .0) k (λ i. asLine n (getD fs i past))) in
-    ap (climbs 0) same ∙ same-test (climbs 0 (keys ls)) (keysInOrder ls) (λ h. and-i (ascends keyBelow ls) (all inRange ls) (climbs-ascends 0 ls h) (climbs-range 0 ls h)) (order-climbs ls)
+    let same : liveKeys k fs ≡ lineKeys ls = keys-of-lines n k fs in
+    ap (climbs 0) same ∙ same-test (climbs 0 (lineKeys ls)) (keysInOrder ls) (λ h. and-i (ascends keyBelow ls) (all inRange ls) (climbs-ascends 0 ls h) (climbs-range 0 ls h)) (order-climbs ls)

@@ -11,20 +11,20 @@ use Rattle.net.specs.Tests.{table}
 use Rattle.format.specs.Arcs.{outCount, nthOutBond}
 use Rattle.marking.specs.declared.Marking.{Marking}
 use Rattle.marking.specs.Form.{bondsOf, withBonds}
-use Rattle.marking.specs.Held.{bonded}
+use Rattle.marking.specs.Held.{holdingBonds}
 use Rattle.engine.proofs.Adding.{held-none, held-all, add-asks, add-gives}
 use Rattle.engine.proofs.put_out_bonds.Tie as tie
 use Rattle.engine.proofs.put_out_bonds.Statement.{statement}
 
 abbrev Inv-loop : tie.InvT-loop
-Inv-loop step lo₀ hi₀ count held₀ left₀ lo hi held left = (left ≤ outCount step) × (bonded held lo hi ≡ withBonds (bonded count lo₀ hi₀)
-    (puts sameBond lessBond (drop left (table (outCount step) (nthOutBond step))) (bondsOf (bonded count lo₀ hi₀))))
+Inv-loop step lo₀ hi₀ count held₀ left₀ lo hi held left = (left ≤ outCount step) × (holdingBonds held lo hi ≡ withBonds (holdingBonds count lo₀ hi₀)
+    (puts sameBond lessBond (drop left (table (outCount step) (nthOutBond step))) (bondsOf (holdingBonds count lo₀ hi₀))))
 
 abbrev μ-loop : tie.MeasureT-loop
 μ-loop step lo₀ hi₀ count held₀ left₀ lo hi held left = left
 
 abbrev m : tie.Start Inv-loop μ-loop → Marking
-m s = bonded (s .args .count) (s .args .lo .now) (s .args .hi .now)
+m s = holdingBonds (s .args .count) (s .args .lo .now) (s .args .hi .now)
 
 out-count-requires : tie.Need-out-count-requires Inv-loop μ-loop
 out-count-requires c κs = search needs

@@ -11,21 +11,21 @@ use Rattle.net.specs.Tests.{keep, table}
 use Rattle.format.specs.Arcs.{outCount, nthOutBond, arcsIn}
 use Rattle.marking.specs.declared.Marking.{Marking}
 use Rattle.marking.specs.Form.{bondsOf, withBonds}
-use Rattle.marking.specs.Held.{bonded}
+use Rattle.marking.specs.Held.{holdingBonds}
 use Rattle.engine.proofs.Removing.{left-all, take-asks, take-gives}
 use Rattle.engine.proofs.take_new_bonds.Tie as tie
 use Rattle.engine.proofs.take_new_bonds.Statement.{statement}
 
 abbrev Inv-loop : tie.InvT-loop
 Inv-loop step lo₀ hi₀ count made held₀ i₀ lo hi held i = (made ≡ outCount step) × (i ≤ made) ×
-    (bonded held lo hi ≡ withBonds (bonded count lo₀ hi₀)
-    (keep (λ (c : Bond). not (hasBond c (table i (nthOutBond step)) && not (hasBond c (arcsIn step .inBonds)))) (bondsOf (bonded count lo₀ hi₀))))
+    (holdingBonds held lo hi ≡ withBonds (holdingBonds count lo₀ hi₀)
+    (keep (λ (c : Bond). not (hasBond c (table i (nthOutBond step)) && not (hasBond c (arcsIn step .inBonds)))) (bondsOf (holdingBonds count lo₀ hi₀))))
 
 abbrev μ-loop : tie.MeasureT-loop
 μ-loop step lo₀ hi₀ count made held₀ i₀ lo hi held i = made - i
 
 abbrev m : tie.Start Inv-loop μ-loop → Marking
-m s = bonded (s .args .count) (s .args .lo .now) (s .args .hi .now)
+m s = holdingBonds (s .args .count) (s .args .lo .now) (s .args .hi .now)
 
 out-count-requires : tie.Need-out-count-requires Inv-loop μ-loop
 out-count-requires c κs = search needs

@@ -5,13 +5,13 @@ use borrow.Author.Needs.{needs}
 use Rattle.format.specs.Arcs.{arcsIn}
 use Rattle.marking.specs.declared.Marking.{Marking}
 use Rattle.marking.specs.Form.{bondsOf, withBonds}
-use Rattle.marking.specs.Held.{bonded}
+use Rattle.marking.specs.Held.{holdingBonds}
 use Rattle.engine.proofs.Removing.{stays-in, stays-out}
 use Rattle.engine.proofs.take_out.Tie as tie
 use Rattle.engine.proofs.take_out.Statement.{statement}
 
 abbrev m : tie.Start → Marking
-m s = bonded (s .args .count) (s .args .lo .now) (s .args .hi .now)
+m s = holdingBonds (s .args .count) (s .args .lo .now) (s .args .hi .now)
 
 is-in-bond-requires : tie.Need-is-in-bond-requires
 is-in-bond-requires c κs = search needs

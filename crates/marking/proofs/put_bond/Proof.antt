@@ -12,7 +12,7 @@ use Rattle.bonds.specs.Ends.{ends}
 use Rattle.bonds.proofs.Fill.{count-table}
 use Rattle.marking.specs.declared.Marking.{Marking}
 use Rattle.marking.specs.Form.{bondsOf}
-use Rattle.marking.specs.Held.{bonded}
+use Rattle.marking.specs.Held.{holdingBonds}
 use Rattle.marking.proofs.Forms.{added, not-added, one-more}
 use Rattle.marking.proofs.Lent.{lo-length, hi-length, lo-more, hi-more}
 use Rattle.marking.proofs.put_bond.Tie as tie
@@ -23,7 +23,7 @@ start c = c .before .before .before .before .before
 
 -- the marking of no places that the arrays hold
 abbrev at : tie.After-has-bond → Marking
-at c = bonded (start c .args .count) (start c .args .lo .now) (start c .args .hi .now)
+at c = holdingBonds (start c .args .count) (start c .args .lo .now) (start c .args .hi .now)
 
 abbrev else1 : tie.After-rank → tie.Else1
 else1 c = c .before .before .before .before .before

@@ -12,7 +12,7 @@ use Rattle.net.proofs.Tables.{length-table}
 use Rattle.bonds.specs.Ends.{ends}
 use Rattle.marking.specs.declared.Marking.{Marking}
 use Rattle.marking.specs.Form.{bondsOf}
-use Rattle.marking.specs.Held.{bonded}
+use Rattle.marking.specs.Held.{holdingBonds}
 use Rattle.marking.proofs.Forms.{taken, not-taken}
 use Rattle.marking.proofs.Lent.{lo-length, hi-length, lo-less, hi-less}
 use Rattle.marking.proofs.Shifts.{rank-below}
@@ -23,7 +23,7 @@ abbrev start : tie.After-has-bond → tie.Start
 start c = c .before .before .before .before .before
 
 abbrev at : tie.After-has-bond → Marking
-at c = bonded (start c .args .count) (start c .args .lo .now) (start c .args .hi .now)
+at c = holdingBonds (start c .args .count) (start c .args .lo .now) (start c .args .hi .now)
 
 abbrev else1 : tie.After-rank → tie.Else1
 else1 c = c .before .before .before .before .before
