@@ -1,4 +1,4 @@
--- `marking_form::zero_from` meets its contract.
+-- `marking_form::zero_bytes` meets its contract.
 -- Assumes nothing.
 use mathlib.Core.Path.{_≡_, refl, sym, _∙_}
 use mathlib.Core.Bool.{_&&_}
@@ -8,8 +8,8 @@ use lib.Dec.{eqb}
 use borrow.Author.Needs.{needs}
 use Rattle.marking.specs.Form.{zeroFrom}
 use Rattle.marking_form.proofs.Zeros.{rest-turn, rest-end}
-use Rattle.marking_form.proofs.zero_from.Tie as tie
-use Rattle.marking_form.proofs.zero_from.Statement.{statement}
+use Rattle.marking_form.proofs.zero_bytes.Tie as tie
+use Rattle.marking_form.proofs.zero_bytes.Statement.{statement}
 
 abbrev Inv-loop : tie.InvT-loop
 Inv-loop a k zero₀ i₀ zero i = zeroFrom k a ≡ (zero && zeroFrom i a)
@@ -38,7 +38,7 @@ returns : tie.Need-returns Inv-loop μ-loop
 returns c = sym (c .before .loop .inv
     ∙ rest-end (λ (x : ℕ). eqb x 0) (c .before .before .args .a .now) (c .before .loop .i) (c .before .loop .zero) (c .loop-test .left))
 
-pub zero-from-spec : {M : Type 1} → statement M
-zero-from-spec =
+pub zero-bytes-spec : {M : Type 1} → statement M
+zero-bytes-spec =
     tie.close
     (tie.spec Inv-loop μ-loop loop-holds shared-slice-read-zero add-i loop-less loop-again returns)
