@@ -1,1 +1,3 @@
--- Laws of labels.
+-- Laws of labels: a bond joined, and the sets of the labels.
+pub mod Joining
+pub mod Members
