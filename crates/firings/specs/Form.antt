@@ -22,6 +22,10 @@ usedInForm n f = allWithin (2 ^ n - 1) (table (f .live) (λ i. getD (f .moved) i
 abbrev pub unusedInForm : Firings → Bool
 unusedInForm f = zeroFrom (f .live) (f .transitions) && (zeroFrom (f .live) (f .keys) && zeroFrom (f .live) (f .moved))
 
+-- the form of the live firings
+abbrev pub firingsInForm : ℕ → Firings → Bool
+firingsInForm n f = usedInForm n f && unusedInForm f
+
 -- each is above the one before, the first above `last`, and none is above the highest key
 abbrev pub climbs : ℕ → List ℕ → Bool
 climbs last [] = true

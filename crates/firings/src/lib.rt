@@ -11,13 +11,15 @@ ghost use Rattle.net.specs.Journal.{transition, common};
 ghost use Rattle.net.specs.Tests.{pick, any, count, table};
 ghost use Rattle.words.specs.Sets.{setOf};
 ghost use Rattle.marking.specs.Form.{zeroFrom};
-ghost use Rattle.firings.specs.Lines.{lying, firingAt, closed, closedUp};
+ghost use Rattle.firings.specs.Lines.{lying, firingAt, linesIn, firingsOf, closed, closedUp};
 ghost use Rattle.firings.specs.Search.{keysIn, lastKey, indexOf, builtOnIn};
-ghost use Rattle.firings.specs.Form.{allWithin, climbs};
+ghost use Rattle.firings.specs.Form.{allWithin, firingsInForm, climbs};
+use marking_form::zero_bytes;
 use net::Key;
 use net::MAX_KEY;
 use net::MAX_LIVE;
 use net::Transition;
+use words::low_bits;
 use words::shares;
 use words::union;
 
@@ -123,7 +125,7 @@ pub fn close_up(
 }
 
 // Whether a is nothing but zeros from k on. Every entry is looked at: no early exit, here and below.
-pub fn zero_keys(a: &[u16], k: usize) -> bool
+fn zero_keys(a: &[u16], k: usize) -> bool
     ensures { λ r. ⌜ r ≡ zeroFrom k (now (a .entry)) ⌝ }
 {
     let mut zero = true;
@@ -135,7 +137,7 @@ pub fn zero_keys(a: &[u16], k: usize) -> bool
     zero
 }
 
-pub fn zero_words(a: &[u64], k: usize) -> bool
+fn zero_words(a: &[u64], k: usize) -> bool
     ensures { λ r. ⌜ r ≡ zeroFrom k (now (a .entry)) ⌝ }
 {
     let mut zero = true;
@@ -147,9 +149,8 @@ pub fn zero_words(a: &[u64], k: usize) -> bool
     zero
 }
 
-// No live firing has a base above `top`, the word of all bases. The callers have seen that there are no more than the limit,
-// here and below.
-pub fn all_within(moved: &[u64; MAX_LIVE], live: usize, top: u64) -> bool
+// No set of a live firing is above `top`. The callers have seen that there are no more firings than the limit, here and below.
+fn all_within(moved: &[u64; MAX_LIVE], live: usize, top: u64) -> bool
     requires { ⌜ live ≤ maxLive ⌝ }
     ensures { λ r. ⌜ r ≡ allWithin top (table live (λ i. getD (now (moved .entry)) i 0)) ⌝ }
 {
@@ -160,6 +161,29 @@ pub fn all_within(moved: &[u64; MAX_LIVE], live: usize, top: u64) -> bool
         i += 1;
     }
     ok
+}
+
+// Whether live firings are in their form: no base from n on is in a moved set, and unused entries are 0. Those in their form
+// are laid out as the lines that they hold are. The callers have an accepted sheet of n bases.
+pub fn firings_in_form<'a>(
+    n: usize,
+    live: usize,
+    transitions: &'a [u8; MAX_LIVE],
+    keys: &'a [u16; MAX_LIVE],
+    moved: &'a [u64; MAX_LIVE],
+) -> bool
+    requires { ⌜ (n ≤ maxBases) × (live ≤ maxLive) ⌝ }
+    ensures { λ r. ⌜ r ≡ firingsInForm n (lying live (now (transitions .entry)) (now (keys .entry)) (now (moved .entry))) ⌝ }
+    ensures { λ r. ⌜
+        (r ≡ true → lying live (now (transitions .entry)) (now (keys .entry)) (now (moved .entry))
+        ≡ firingsOf (linesIn n (lying live (now (transitions .entry)) (now (keys .entry)) (now (moved .entry))))) ⌝ }
+{
+    let top = low_bits(n);
+    let used = all_within(moved, live, top);
+    let steps = zero_bytes(transitions, live);
+    let serials = zero_keys(keys, live);
+    let sets = zero_words(moved, live);
+    used & (steps & (serials & sets))
 }
 
 // The live keys strictly ascend, from 1 to 65,535.
