@@ -31,3 +31,7 @@ pub record Labelled (l members : List ℕ) (bs : List Bond) : Type 0 where
 -- a bond whose ends have labels
 abbrev pub Within : ℕ → Bond → Type 0
 Within N b = (b .lo < N) × (b .hi < N)
+
+-- arrays of labels and of their sets, where each label has a set
+abbrev pub Fits : List ℕ → List ℕ → Type 0
+Fits l members = (length l ≡ maxBases) × (length members ≡ maxBases) × ((p : ℕ) → p < maxBases → labelIn l p < maxBases)

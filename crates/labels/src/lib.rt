@@ -1,2 +1,127 @@
 // Labels in lent arrays: connected bases have one label; and the set of the bases of each label.
 // Bonds that are put in join labels; where bonds go, the labels are made anew over parents.
+ghost use mathlib.Core.Path.{_≡_};
+ghost use mathlib.Core.List.{List};
+ghost use Prim.Native.Nat.{ℕ, _<_, _≤_};
+ghost use lib.ListN.{length, getD};
+ghost use Rattle.net.specs.Limits.{maxBases};
+ghost use Rattle.net.specs.Tests.{table};
+ghost use Rattle.net.specs.Net.{sameBond, lessBond};
+ghost use Rattle.net.specs.Sorted.{put};
+ghost use Rattle.net.specs.declared.Bond.{Bond};
+ghost use Rattle.bonds.specs.Ends.{bondsIn, renamed};
+ghost use Rattle.labels.specs.Labelled.{labelIn, Parted, Labelled, Within, Fits};
+ghost use Rattle.labels.specs.Forest.{Down, Forest, Spans};
+use net::Base;
+use net::Bond;
+use net::MAX_BASES;
+use words::union;
+
+// A label, once `from` is renamed to `to`.
+fn new_label(x: Base, from: Base, to: Base) -> Base
+    ensures { λ r. ⌜ r ≡ renamed from to x ⌝ }
+{
+    if x == from { to } else { x }
+}
+
+// One pass over all labels, to the constant bound. The length behind the reference is known to `join`'s callers.
+fn rename_in(l: &mut [Base; MAX_BASES], from: Base, to: Base)
+    requires { ⌜ length (now l) ≡ maxBases ⌝ }
+    ensures { λ _. ⌜ now (l .exit) ≡ table maxBases (λ p. renamed from to (getD (now (l .entry)) p 0)) ⌝ }
+{
+    let mut p = 0;
+    while p < MAX_BASES {
+        l[p] = new_label(l[p], from, to);
+        p += 1;
+    }
+}
+
+// The labels and their sets after one more bond. Where its ends have one label already nothing changes.
+// The callers' labels are `Labelled`, so they fit; a checked sheet's bonds are of bases below the limit.
+pub fn join(l: &mut [Base; MAX_BASES], members: &mut [u64; MAX_BASES], b: Bond)
+    requires { ⌜ Fits (now l) (now members) × Within maxBases b ⌝ }
+    ensures { λ _. ⌜ Fits (now (l .exit)) (now (members .exit)) ⌝ }
+    ensures { λ _. ⌜ ((bs : List Bond) → Labelled (now (l .entry)) (now (members .entry)) bs → Labelled (now (l .exit)) (now (members .exit)) (put sameBond lessBond b bs)) ⌝ }
+{
+    let to = l[b.lo as usize];
+    let from = l[b.hi as usize];
+    if to == from {
+        return;
+    }
+    let x = to as usize;
+    let y = from as usize;
+    members[x] = union(members[x], members[y]);
+    rename_in(l, from, to);
+}
+
+// The root over p.
+fn root(l: &[Base; MAX_BASES], p: Base) -> Base
+    requires { ⌜ (p < maxBases) × Down maxBases (now l) ⌝ }
+    ensures { λ r. ⌜ (r < maxBases) × (getD (now (l .entry)) r 0 ≡ r) × ((f : ℕ → ℕ) → Forest maxBases (now (l .entry)) f → f r ≡ f p) ⌝ }
+{
+    let mut x = p;
+    let mut up = l[x as usize];
+    while up < x {
+        x = up;
+        up = l[x as usize];
+    }
+    x
+}
+
+// One more bond: the higher root goes under the lower. Where they are one nothing changes.
+fn unite(l: &mut [Base; MAX_BASES], b: Bond)
+    requires { ⌜ (length (now l) ≡ maxBases) × Within maxBases b × Down maxBases (now l) ⌝ }
+    ensures { λ _. ⌜ (length (now (l .exit)) ≡ maxBases) × Down maxBases (now (l .exit)) × ((bs : List Bond) → Spans maxBases (now (l .entry)) bs → Spans maxBases (now (l .exit)) (put sameBond lessBond b bs)) ⌝ }
+{
+    let x = root(l, b.lo);
+    let y = root(l, b.hi);
+    if x < y {
+        l[y as usize] = x;
+    } else {
+        l[x as usize] = y;
+    }
+}
+
+// Each base gets its root for a label.
+fn flatten(l: &mut [Base; MAX_BASES])
+    requires { ⌜ (length (now l) ≡ maxBases) × Down maxBases (now l) ⌝ }
+    ensures { λ _. ⌜ ((bs : List Bond) → Spans maxBases (now (l .entry)) bs → Parted maxBases (now (l .exit)) bs) ⌝ }
+{
+    let mut p = 0;
+    while p < MAX_BASES {
+        let up = l[p] as usize;
+        l[p] = l[up];
+        p += 1;
+    }
+}
+
+// At first each base is its own parent.
+fn own_in(l: &mut [Base; MAX_BASES])
+    requires { ⌜ length (now l) ≡ maxBases ⌝ }
+    ensures { λ _. ⌜ now (l .exit) ≡ table maxBases (λ p. p) ⌝ }
+{
+    let mut p = 0;
+    while p < MAX_BASES {
+        l[p] = p as Base;
+        p += 1;
+    }
+}
+
+// The labels of the first `count` bonds, made anew over parents.
+fn relabel<'a>(l: &mut [Base; MAX_BASES], lo: &'a [Base], hi: &'a [Base], count: usize)
+    requires { ⌜ (length (now l) ≡ maxBases) × (count ≤ length (now lo)) × (count ≤ length (now hi)) ⌝ }
+    requires { ⌜ ((i : ℕ) → i < count → (getD (now lo) i 0 < maxBases) × (getD (now hi) i 0 < maxBases)) ⌝ }
+    ensures { λ _. ⌜ Parted maxBases (now (l .exit)) (bondsIn (now (lo .entry)) (now (hi .entry)) count) ⌝ }
+{
+    own_in(l);
+    let mut left = count;
+    while 0 < left {
+        left -= 1;
+        let b = Bond {
+            lo: lo[left],
+            hi: hi[left],
+        };
+        unite(l, b);
+    }
+    flatten(l);
+}
