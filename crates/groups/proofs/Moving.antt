@@ -1,14 +1,13 @@
 -- Laws of the word of the moved bases: the union of the sets of the groups that entries hit.
 -- Assumes nothing.
-use mathlib.Core.Path.{_≡_, refl, sym, _∙_, ap, subst}
+use mathlib.Core.Path.{_≡_, sym, _∙_, ap, subst}
 use mathlib.Core.Logic.{inl, inr}
-use mathlib.Core.Bool.{Bool, false, _||_}
-use mathlib.Core.List.{List, _∷_}
+use mathlib.Core.Bool.{Bool, _||_}
+use mathlib.Core.List.{List}
 use Prim.Native.Nat.{ℕ, zero, suc, _+_, _<_}
 use native.Mathlib.Omega.{arith}
 use lib.Dec.{eqb}
 use Rattle.causal.specs.Lists.{Mem}
-use Rattle.net.specs.Limits.{maxBases}
 use Rattle.net.specs.Tests.{any, table}
 use Rattle.net.specs.Connection.{connected}
 use Rattle.net.specs.Firing.{moves}
@@ -17,6 +16,7 @@ use Rattle.net.specs.declared.Entry.{Entry}
 use Rattle.net.proofs.Tests.{any-cong}
 use Rattle.net.proofs.Tables.{table-cong, any-more}
 use Rattle.words.specs.Sets.{setOf, either}
+use Rattle.words.proofs.Bits.{either-table}
 use Rattle.labels.specs.Labelled.{labelIn, Parted}
 
 -- what holds of all elements of a table
@@ -34,21 +34,11 @@ pub moves-parted : (N : ℕ) (l : List ℕ) (bs : List Bond) → Parted N l bs �
 moves-parted N l bs P es h = table-cong N (movesBy (labelIn l) es) (moves bs es)
     (λ p k. any-cong (λ (e : Entry). eqb (labelIn l (e .base)) (labelIn l p)) (λ (e : Entry). connected bs (e .base) p) es (λ e m. P .says (e .base) p (h e m) k))
 
-either-tables : (n : ℕ) (f g : ℕ → Bool) → either (table n f) (table n g) ≡ table n (λ p. f p || g p)
-either-tables zero f g = refl
-either-tables (suc n) f g = ap (λ (l : List Bool). (f zero || g zero) ∷ l) (either-tables n (λ p. f (suc p)) (λ p. g (suc p)))
-
--- no base is in the word 0
-pub set-none : (n : ℕ) → setOf n 0 ≡ table n (λ p. false)
-unfolding setOf
-set-none zero = refl
-set-none (suc n) = ap (λ (l : List Bool). false ∷ l) (set-none n)
-
 -- one entry more: r is the union of w and of the set of its group
 pub moves-turn : (N : ℕ) (lab : ℕ → ℕ) (i : ℕ) (f : ℕ → Entry) (e : Entry) (w m r : ℕ) → e ≡ f i → setOf N w ≡ table N (movesBy lab (table i f))
     → setOf N m ≡ table N (λ q. eqb (lab (e .base)) (lab q)) → setOf N r ≡ either (setOf N w) (setOf N m)
     → setOf N r ≡ table N (movesBy lab (table (i + 1) f))
 moves-turn N lab i f e w m r q a b c =
-    c ∙ (λ j. either (a j) (b j)) ∙ either-tables N (movesBy lab (table i f)) (λ p. eqb (lab (e .base)) (lab p))
+    c ∙ (λ j. either (a j) (b j)) ∙ either-table N (movesBy lab (table i f)) (λ p. eqb (lab (e .base)) (lab p))
     ∙ table-cong N (λ p. movesBy lab (table i f) p || eqb (lab (e .base)) (lab p)) (movesBy lab (table (i + 1) f))
     (λ p _. ap (λ (d : Entry). movesBy lab (table i f) p || eqb (lab (d .base)) (lab p)) q ∙ sym (any-more (λ (d : Entry). eqb (lab (d .base)) (lab p)) i f))

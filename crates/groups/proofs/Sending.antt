@@ -4,27 +4,20 @@ use mathlib.Core.Path.{_≡_, refl, sym, _∙_, ap}
 use mathlib.Core.Logic.{inl, inr}
 use mathlib.Core.Bool.{Bool, true, false, _&&_}
 use mathlib.Core.List.{List, [], _∷_}
-use Prim.Native.Nat.{ℕ, suc, _-_, _<_, _≤_}
+use Prim.Native.Nat.{ℕ, _-_, _<_, _≤_}
 use native.Mathlib.Omega.{arith}
 use lib.Dec.{eqb}
 use lib.ListN.{length, getD, drop, drop-of-length-le}
-use lib.Seq.{drop-cons}
 use Rattle.causal.specs.Lists.{Mem}
 use Rattle.net.specs.Tests.{pick, table}
 use Rattle.net.specs.Firing.{sent}
 use Rattle.net.specs.declared.Bond.{Bond}
 use Rattle.net.specs.declared.Entry.{Entry}
+use Rattle.net.proofs.Tests.{pick-same}
 use Rattle.net.proofs.Tables.{length-table, getD-table, table-cong, table-list}
+use Rattle.bonds.proofs.Fill.{drop-back}
 use Rattle.labels.specs.Labelled.{labelIn, Parted}
 use Rattle.groups.specs.Groups.{firsts}
-
-pub drop-back : {X : Type 0} (n L : ℕ) (f : ℕ → X) → 0 < L → L ≤ n → drop (L - 1) (table n f) ≡ f (L - 1) ∷ drop L (table n f)
-drop-back {X} n L f a b =
-    let s : L - 1 < length (table n f) = rw (length-table n f) (omega arith) in
-    let q : suc (L - 1) ≡ L = omega arith in
-    drop-cons (table n f) (L - 1) (f 0) s
-    ∙ ap (λ (x : X). x ∷ drop (suc (L - 1)) (table n f)) (getD-table n f (L - 1) (f 0) (omega arith))
-    ∙ ap (λ (k : ℕ). f (L - 1) ∷ drop k (table n f)) q
 
 -- an entry sends of its group what may go, on top of what the later ones sent
 one-more : (may own : Bool) (v x old : ℕ) → pick (may && own) v (pick may x old) ≡ pick may (pick own v x) old
@@ -46,12 +39,8 @@ module _ (N n : ℕ) (may : ℕ → Bool) (give : Entry → ℕ) (lab : ℕ → 
   sent-none L e s =
       let h : length (table n f) ≤ L = rw (length-table n f) (omega arith) in
       sym (table-list l₀ 0) ∙ ap (λ (k : ℕ). table k (λ p. getD l₀ p 0)) s
-      ∙ table-cong N (λ p. getD l₀ p 0) (place []) (λ p _. sym (same (may p) (getD l₀ p 0)))
+      ∙ table-cong N (λ p. getD l₀ p 0) (place []) (λ p _. sym (pick-same (may p) (getD l₀ p 0)))
       ∙ ap (λ (es : List Entry). table N (place es)) (sym (drop-of-length-le (table n f) h))
-    where
-      same : (b : Bool) (x : ℕ) → pick b x x ≡ x
-      same true x = refl
-      same false x = refl
 
   pub sent-turn : (L : ℕ) (e : Entry) (x v : ℕ) (l k : List ℕ) → 0 < L → L ≤ n → e ≡ f (L - 1) → x ≡ lab (e .base) → v ≡ give e
       → l ≡ sentFrom L → k ≡ table N (λ p. pick (may p && eqb x (lab p)) v (getD l p 0)) → k ≡ sentFrom (L - 1)

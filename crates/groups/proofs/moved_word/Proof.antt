@@ -1,6 +1,6 @@
 -- `groups::moved_word` meets its contract.
 -- Assumes nothing.
-use mathlib.Core.Path.{_≡_, refl, sym, _∙_, ap, subst}
+use mathlib.Core.Path.{_≡_, sym, _∙_, ap, subst}
 use Prim.Native.Nat.{ℕ, _-_, _<_, _≤_}
 use native.Mathlib.Omega.{arith}
 use borrow.Author.Needs.{needs}
@@ -9,8 +9,9 @@ use Rattle.net.specs.Tests.{table}
 use Rattle.net.specs.declared.Entry.{Entry}
 use Rattle.format.specs.Arcs.{arcsIn, entryCount, nthEntry}
 use Rattle.words.specs.Sets.{setOf}
+use Rattle.words.proofs.Bits.{no-bases}
 use Rattle.labels.specs.Labelled.{labelIn}
-use Rattle.groups.proofs.Moving.{movesBy, set-none, moves-turn, moves-parted, table-each}
+use Rattle.groups.proofs.Moving.{movesBy, moves-turn, moves-parted, table-each}
 use Rattle.groups.proofs.moved_word.Tie as tie
 use Rattle.groups.proofs.moved_word.Statement.{statement}
 
@@ -34,7 +35,7 @@ entry-count-requires : tie.Need-entry-count-requires Inv-loop μ-loop
 entry-count-requires c κs = search needs
 
 loop-holds : tie.Need-loop-holds Inv-loop μ-loop
-loop-holds c = (c .entry-count .ensures, search needs, set-none maxBases)
+loop-holds c = (c .entry-count .ensures, search needs, no-bases maxBases)
 
 entry-requires : tie.Need-entry-requires Inv-loop μ-loop
 entry-requires c κs = search needs

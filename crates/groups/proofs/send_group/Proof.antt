@@ -10,7 +10,7 @@ use borrow.Author.Needs.{needs}
 use Rattle.net.specs.Limits.{maxBases}
 use Rattle.net.specs.Tests.{pick, table}
 use Rattle.bonds.proofs.Fill.{fill-turn, fill-end}
-use Rattle.marking.proofs.InPlace.{read-ahead}
+use Rattle.bonds.proofs.InPlace.{read-ahead}
 use Rattle.labels.specs.Labelled.{labelIn}
 use Rattle.groups.proofs.send_group.Tie as tie
 use Rattle.groups.proofs.send_group.Statement.{statement}

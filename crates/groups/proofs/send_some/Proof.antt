@@ -11,9 +11,9 @@ use borrow.Author.Needs.{needs}
 use Rattle.net.specs.Limits.{maxBases}
 use Rattle.net.specs.Tests.{pick, table}
 use Rattle.bonds.proofs.Fill.{fill-turn, fill-end}
+use Rattle.bonds.proofs.InPlace.{read-ahead}
 use Rattle.words.specs.Sets.{setOf}
 use Rattle.labels.specs.Labelled.{labelIn}
-use Rattle.marking.proofs.InPlace.{read-ahead}
 use Rattle.groups.proofs.send_some.Tie as tie
 use Rattle.groups.proofs.send_some.Statement.{statement}
 
