@@ -1,4 +1,5 @@
--- Laws of labels: a bond joined, the sets of the labels, and labels over parents.
+-- Laws of labels: a bond joined, the sets of the labels, labels over parents, sets gathered anew.
 pub mod Joining
 pub mod Members
 pub mod Trees
+pub mod Gathering

@@ -2,6 +2,7 @@
 // Bonds that are put in join labels; where bonds go, the labels are made anew over parents.
 ghost use mathlib.Core.Path.{_≡_};
 ghost use mathlib.Core.List.{List};
+ghost use lib.Dec.{eqb};
 ghost use Prim.Native.Nat.{ℕ, _<_, _≤_};
 ghost use lib.ListN.{length, getD};
 ghost use Rattle.net.specs.Limits.{maxBases};
@@ -10,12 +11,14 @@ ghost use Rattle.net.specs.Net.{sameBond, lessBond};
 ghost use Rattle.net.specs.Sorted.{put};
 ghost use Rattle.net.specs.declared.Bond.{Bond};
 ghost use Rattle.bonds.specs.Ends.{bondsIn, renamed};
+ghost use Rattle.words.specs.Sets.{setOf};
 ghost use Rattle.labels.specs.Labelled.{labelIn, Parted, Labelled, Within, Fits};
 ghost use Rattle.labels.specs.Forest.{Down, Forest, Spans};
 use net::Base;
 use net::Bond;
 use net::MAX_BASES;
 use words::union;
+use words::with_base;
 
 // A label, once `from` is renamed to `to`.
 fn new_label(x: Base, from: Base, to: Base) -> Base
@@ -124,4 +127,35 @@ fn relabel<'a>(l: &mut [Base; MAX_BASES], lo: &'a [Base], hi: &'a [Base], count:
         unite(l, b);
     }
     flatten(l);
+}
+
+// The set of each label: at first none has a base, then each base goes into its label's.
+fn set_members(l: &[Base; MAX_BASES], members: &mut [u64; MAX_BASES])
+    requires { ⌜ ((p : ℕ) → p < maxBases → labelIn (now l) p < maxBases) ⌝ }
+    ensures { λ _. ⌜ (length (now (members .exit)) ≡ maxBases) × ((x : ℕ) → x < maxBases → setOf maxBases (getD (now (members .exit)) x 0) ≡ table maxBases (λ q. eqb x (labelIn (now (l .entry)) q))) ⌝ }
+{
+    *members = [0; MAX_BASES];
+    let mut p = 0;
+    while p < MAX_BASES {
+        let x = l[p] as usize;
+        members[x] = with_base(members[x], p as u8);
+        p += 1;
+    }
+}
+
+// The labels of the first `count` bonds and their sets, made anew.
+// The callers hold a marking in its form, and a good one: there is room for `count` bonds, of bases below the limit.
+pub fn label_in<'a>(
+    l: &mut [Base; MAX_BASES],
+    members: &mut [u64; MAX_BASES],
+    lo: &'a [Base],
+    hi: &'a [Base],
+    count: usize,
+)
+    requires { ⌜ (length (now l) ≡ maxBases) × (count ≤ length (now lo)) × (count ≤ length (now hi)) ⌝ }
+    requires { ⌜ ((i : ℕ) → i < count → (getD (now lo) i 0 < maxBases) × (getD (now hi) i 0 < maxBases)) ⌝ }
+    ensures { λ _. ⌜ Labelled (now (l .exit)) (now (members .exit)) (bondsIn (now (lo .entry)) (now (hi .entry)) count) ⌝ }
+{
+    relabel(l, lo, hi, count);
+    set_members(l, members);
 }

@@ -1,10 +1,11 @@
-use borrow.Author.Needs.{needs}
+-- `labels::flatten` meets its contract.
+-- Assumes nothing.
+use mathlib.Core.Path.{_≡_, refl, _∙_}
+use mathlib.Core.List.{List, _++_}
+use Prim.Native.Nat.{ℕ, _-_, _<_, _≤_}
 use native.Mathlib.Omega.{arith}
-use mathlib.Core.Path.{_≡_, refl, ap, sym, _∙_}
-use Prim.Native.Nat.{ℕ, suc, _+_, _-_, _*_, _<_, _≤_}
-use lib.ListN.{length, getD, take, drop, set}
-use mathlib.Core.List.{List, [], _∷_, _++_}
-use lib.ListN.{length-set}
+use lib.ListN.{length, getD, drop, length-set}
+use borrow.Author.Needs.{needs}
 use Rattle.net.specs.Limits.{maxBases}
 use Rattle.net.specs.Tests.{table}
 use Rattle.bonds.proofs.Fill.{fill-turn, fill-end}
@@ -12,8 +13,6 @@ use Rattle.labels.specs.Forest.{Down, Forest}
 use Rattle.labels.proofs.Trees.{spans-down-kept, flat-turn, flat-parted}
 use Rattle.labels.proofs.flatten.Statement.{statement}
 use Rattle.labels.proofs.flatten.Tie as tie
-use Rattle.labels.proofs.flatten.Reads as reads
-use Rattle.labels.proofs.flatten.Lts as lts
 
 abbrev Inv-loop : tie.InvT-loop
 Inv-loop l₀ p₀ l p = (p ≤ maxBases) × (length l₀ ≡ maxBases) × Down maxBases l × ((f : ℕ → ℕ) → Forest maxBases l₀ f → l ≡ table p f ++ drop p l₀) × (length l ≡ maxBases)
@@ -21,41 +20,33 @@ Inv-loop l₀ p₀ l p = (p ≤ maxBases) × (length l₀ ≡ maxBases) × Down 
 abbrev μ-loop : tie.MeasureT-loop
 μ-loop l₀ p₀ l p = maxBases - p
 
--- src/lib.rt:51:5
 loop-holds : tie.Need-loop-holds Inv-loop μ-loop
 loop-holds c = (search needs, c .pre .0, c .pre .1, λ f F. refl, c .pre .0)
 
--- src/lib.rt:52:18
 element-copy-out-up : tie.Need-element-copy-out-up Inv-loop μ-loop
 element-copy-out-up c = search needs
 
--- src/lib.rt:52:18
 cast-up : tie.Need-cast-up Inv-loop μ-loop
 cast-up c =
     let at : tie.At-loop Inv-loop μ-loop = c .before .before in
     let d = at .loop .inv .2 (at .loop .p) (omega arith) in
     record { fits = omega arith }
 
--- src/lib.rt:53:16
 element-copy-out-l : tie.Need-element-copy-out-l Inv-loop μ-loop
 element-copy-out-l c =
     let at : tie.At-loop Inv-loop μ-loop = c .before .before in
     let d = at .loop .inv .2 (at .loop .p) (omega arith) in
     omega arith
 
--- src/lib.rt:53:9
 element-write-l : tie.Need-element-write-l Inv-loop μ-loop
 element-write-l c = search needs
 
--- src/lib.rt:54:9
 add-p : tie.Need-add-p Inv-loop μ-loop
 add-p c = search needs
 
--- src/lib.rt:51:5
 loop-less : tie.Need-loop-less Inv-loop μ-loop
 loop-less c = search needs
 
--- src/lib.rt:51:5
 loop-again : tie.Need-loop-again Inv-loop μ-loop
 loop-again c =
     let at : tie.At-loop Inv-loop μ-loop = c .before .before .before in
@@ -73,7 +64,6 @@ loop-again c =
       length-set l p v ∙ at .loop .inv .4,
     )
 
--- src/lib.rt:46:1
 returns : tie.Need-returns Inv-loop μ-loop
 returns c =
     let at : tie.At-loop Inv-loop μ-loop = c .before in

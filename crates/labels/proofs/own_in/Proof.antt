@@ -1,16 +1,16 @@
-use borrow.Author.Needs.{needs}
+-- `labels::own_in` meets its contract.
+-- Assumes nothing.
+use mathlib.Core.Path.{_≡_, refl}
+use mathlib.Core.List.{_++_}
+use Prim.Native.Nat.{_-_, _≤_}
 use native.Mathlib.Omega.{arith}
-use mathlib.Core.Path.{_≡_, refl, ap, sym, _∙_}
-use Prim.Native.Nat.{ℕ, suc, _+_, _-_, _*_, _<_, _≤_}
-use lib.ListN.{length, getD, take, drop, set}
-use mathlib.Core.List.{List, [], _∷_, _++_}
+use lib.ListN.{length, drop}
+use borrow.Author.Needs.{needs}
 use Rattle.net.specs.Limits.{maxBases}
 use Rattle.net.specs.Tests.{table}
 use Rattle.bonds.proofs.Fill.{fill-turn, fill-end}
 use Rattle.labels.proofs.own_in.Statement.{statement}
 use Rattle.labels.proofs.own_in.Tie as tie
-use Rattle.labels.proofs.own_in.Reads as reads
-use Rattle.labels.proofs.own_in.Lts as lts
 
 abbrev Inv-loop : tie.InvT-loop
 Inv-loop l₀ p₀ l p = (p ≤ maxBases) × (length l₀ ≡ maxBases) × (l ≡ table p (λ q. q) ++ drop p l₀)
@@ -18,34 +18,27 @@ Inv-loop l₀ p₀ l p = (p ≤ maxBases) × (length l₀ ≡ maxBases) × (l �
 abbrev μ-loop : tie.MeasureT-loop
 μ-loop l₀ p₀ l p = maxBases - p
 
--- src/lib.rt:66:5
 loop-holds : tie.Need-loop-holds Inv-loop μ-loop
 loop-holds c = (search needs, c .pre, refl)
 
--- src/lib.rt:67:16
 cast-l : tie.Need-cast-l Inv-loop μ-loop
 cast-l c = search needs
 
--- src/lib.rt:67:9
 element-write-l : tie.Need-element-write-l Inv-loop μ-loop
 element-write-l c = search needs
 
--- src/lib.rt:68:9
 add-p : tie.Need-add-p Inv-loop μ-loop
 add-p c = search needs
 
--- src/lib.rt:66:5
 loop-less : tie.Need-loop-less Inv-loop μ-loop
 loop-less c = search needs
 
--- src/lib.rt:66:5
 loop-again : tie.Need-loop-again Inv-loop μ-loop
 loop-again c =
     let at : tie.At-loop Inv-loop μ-loop = c .before in
     let s : tie.Start Inv-loop μ-loop = at .before in
     (search needs, search needs, fill-turn (λ q. q) (at .loop .p) (s .args .l .now) (at .loop .l) 0 _ (omega arith) refl (at .loop .inv .2))
 
--- src/lib.rt:61:1
 returns : tie.Need-returns Inv-loop μ-loop
 returns c =
     let at : tie.At-loop Inv-loop μ-loop = c .before in

@@ -1,9 +1,11 @@
-use borrow.Author.Needs.{needs}
+-- `labels::relabel` meets its contract.
+-- Assumes nothing.
+use mathlib.Core.Path.{refl}
+use mathlib.Core.List.{[]}
+use Prim.Native.Nat.{_-_, _≤_}
 use native.Mathlib.Omega.{arith}
-use mathlib.Core.Path.{_≡_, refl, ap, sym, _∙_}
-use Prim.Native.Nat.{ℕ, suc, _+_, _-_, _*_, _<_, _≤_}
-use lib.ListN.{length, getD, take, drop, set}
-use mathlib.Core.List.{List, [], _∷_, _++_}
+use lib.ListN.{drop}
+use borrow.Author.Needs.{needs}
 use Rattle.net.specs.Limits.{maxBases}
 use Rattle.net.specs.Net.{sameBond, lessBond}
 use Rattle.net.specs.Sorted.{puts}
@@ -12,11 +14,6 @@ use Rattle.labels.specs.Forest.{Spans}
 use Rattle.labels.proofs.Trees.{spans-none, spans-turn, parted-all}
 use Rattle.labels.proofs.relabel.Statement.{statement}
 use Rattle.labels.proofs.relabel.Tie as tie
-use Rattle.labels.proofs.relabel.Reads as reads
-use Rattle.labels.proofs.relabel.Lts as lts
-use Rattle.labels.proofs.flatten.Reads as flatten-reads
-use Rattle.labels.proofs.own_in.Reads as own-in-reads
-use Rattle.labels.proofs.unite.Reads as unite-reads
 
 abbrev Inv-loop : tie.InvT-loop
 Inv-loop l₀ lo hi count left₀ l left = (left ≤ count) × Spans maxBases l (puts sameBond lessBond (drop left (bondsIn lo hi count)) [])
@@ -24,29 +21,23 @@ Inv-loop l₀ lo hi count left₀ l left = (left ≤ count) × Spans maxBases l 
 abbrev μ-loop : tie.MeasureT-loop
 μ-loop l₀ lo hi count left₀ l left = left
 
--- src/lib.rt:78:5
 own-in-requires : tie.Need-own-in-requires Inv-loop μ-loop
 own-in-requires c κs = search needs
 
--- src/lib.rt:80:5
 loop-holds : tie.Need-loop-holds Inv-loop μ-loop
 loop-holds c =
     let s : tie.Start Inv-loop μ-loop = c .before .before .before .before in
     (omega arith, spans-none maxBases (s .args .count) (ends (s .args .lo .now) (s .args .hi .now)) (s .args .count) refl _ (c .own-in .ensures))
 
--- src/lib.rt:81:9
 sub-left : tie.Need-sub-left Inv-loop μ-loop
 sub-left c = search needs
 
--- src/lib.rt:82:28
 shared-slice-read-t11 : tie.Need-shared-slice-read-t11 Inv-loop μ-loop
 shared-slice-read-t11 c = search needs
 
--- src/lib.rt:82:42
 shared-slice-read-t13 : tie.Need-shared-slice-read-t13 Inv-loop μ-loop
 shared-slice-read-t13 c = search needs
 
--- src/lib.rt:83:9
 unite-requires : tie.Need-unite-requires Inv-loop μ-loop
 unite-requires c κs =
     let at : tie.At-loop Inv-loop μ-loop = c .before .before .before .before in
@@ -54,25 +45,21 @@ unite-requires c κs =
     let F = at .loop .inv .1 .forest in
     (F .size, s .pre .1 (at .loop .left - 1) (omega arith), F .down)
 
--- src/lib.rt:80:5
 loop-less : tie.Need-loop-less Inv-loop μ-loop
 loop-less c = search needs
 
--- src/lib.rt:80:5
 loop-again : tie.Need-loop-again Inv-loop μ-loop
 loop-again c =
     let at : tie.At-loop Inv-loop μ-loop = c .before .before .before .before .before in
     let s : tie.Start Inv-loop μ-loop = at .before .before .before .before .before in
     (omega arith, spans-turn maxBases (s .args .count) (ends (s .args .lo .now) (s .args .hi .now)) (at .loop .left) (at .loop .l) _ (omega arith) (omega arith) (c .unite .ensures .2) (at .loop .inv .1))
 
--- src/lib.rt:85:5
 flatten-requires : tie.Need-flatten-requires Inv-loop μ-loop
 flatten-requires c κs =
     let at : tie.At-loop Inv-loop μ-loop = c .before .before in
     let F = at .loop .inv .1 .forest in
     (F .size, F .down)
 
--- src/lib.rt:73:1
 returns : tie.Need-returns Inv-loop μ-loop
 returns c =
     let at : tie.At-loop Inv-loop μ-loop = c .before .before .before in

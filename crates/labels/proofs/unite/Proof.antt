@@ -1,43 +1,34 @@
+-- `labels::unite` meets its contract.
+-- Assumes nothing.
+use mathlib.Core.Path.{_∙_}
+use mathlib.Core.List.{List}
+use Prim.Native.Nat.{ℕ, _≤_}
 use native.Mathlib.Omega.{arith}
-use mathlib.Core.Path.{_≡_, refl, ap, sym, _∙_}
-use Prim.Native.Nat.{ℕ, suc, _+_, _-_, _*_, _<_, _≤_}
-use lib.ListN.{length, getD, take, drop, set}
-use mathlib.Core.List.{List, [], _∷_, _++_}
-use borrow.Author.Needs.{needs}
 use lib.ListN.{length-set}
+use borrow.Author.Needs.{needs}
 use Rattle.net.specs.Limits.{maxBases}
 use Rattle.labels.proofs.Trees.{spans-up, spans-down, spans-down-kept}
 use Rattle.labels.proofs.unite.Statement.{statement}
 use Rattle.labels.proofs.unite.Tie as tie
-use Rattle.labels.proofs.unite.Reads as reads
-use Rattle.labels.proofs.unite.Lts as lts
-use Rattle.labels.proofs.root.Reads as root-reads
 
--- src/lib.rt:36:9
 root-requires : tie.Need-root-requires
 root-requires c κs = search needs
 
--- src/lib.rt:37:9
 root-requires-2 : tie.Need-root-requires-2
 root-requires-2 c κs = search needs
 
--- src/lib.rt:39:11
 cast-l : tie.Need-cast-l
 cast-l c = search needs
 
--- src/lib.rt:39:9
 element-write-l : tie.Need-element-write-l
 element-write-l c = search needs
 
--- src/lib.rt:41:11
 cast-l-2 : tie.Need-cast-l-2
 cast-l-2 c = search needs
 
--- src/lib.rt:41:9
 element-write-l-2 : tie.Need-element-write-l-2
 element-write-l-2 c = search needs
 
--- src/lib.rt:32:1
 returns : tie.Need-returns
 returns c =
     let r2 : tie.After-root2 = c .before in
@@ -54,7 +45,6 @@ returns c =
       spans-up maxBases l (s .args .b) (s .pre .1) x y le tx ty rx ry hx hy,
     )
 
--- src/lib.rt:32:1
 returns-2 : tie.Need-returns-2
 returns-2 c =
     let r2 : tie.After-root2 = c .before in
