@@ -11,7 +11,7 @@ use lib.Seq.{getD-set-same, getD-set-other}
 use borrow.Author.Tests.{eqb-true, eqb-false, eq-eqb, ne-eqb}
 use Rattle.causal.proofs.Tests.{test}
 use Rattle.net.specs.Limits.{maxBases}
-use Rattle.net.specs.Tests.{pick, table}
+use Rattle.net.specs.Tests.{table}
 use Rattle.net.specs.Sorted.{put}
 use Rattle.net.specs.Net.{sameBond, lessBond}
 use Rattle.net.specs.declared.Bond.{Bond}
@@ -20,7 +20,7 @@ use Rattle.net.proofs.Tables.{length-table, getD-table, table-cong}
 use Rattle.words.specs.Sets.{setOf, either}
 use Rattle.words.proofs.Bits.{either-table}
 use Rattle.bonds.specs.Ends.{renamed}
-use Rattle.labels.specs.Labelled.{labelIn, Parted, Labelled, Within, Fits}
+use Rattle.labels.specs.Labelled.{labelIn, Labelled, Within, Fits}
 use Rattle.labels.proofs.Joining.{parted-join, parted-stay}
 
 -- what has label x once y is renamed to x

@@ -27,7 +27,7 @@ fn new_label(x: Base, from: Base, to: Base) -> Base
     if x == from { to } else { x }
 }
 
-// One pass over all labels, to the constant bound. The length behind the reference is known to `join`'s callers.
+// One pass over all labels, to the constant bound. The length is that of `join`'s labels, which fit.
 fn rename_in(l: &mut [Base; MAX_BASES], from: Base, to: Base)
     requires { ⌜ length (now l) ≡ maxBases ⌝ }
     ensures { λ _. ⌜ now (l .exit) ≡ table maxBases (λ p. renamed from to (getD (now (l .entry)) p 0)) ⌝ }
@@ -57,7 +57,7 @@ pub fn join(l: &mut [Base; MAX_BASES], members: &mut [u64; MAX_BASES], b: Bond)
     rename_in(l, from, to);
 }
 
-// The root over p.
+// The root over p. Callers have united bonds only, so no parent is higher; the ends of bonds are below the limit.
 fn root(l: &[Base; MAX_BASES], p: Base) -> Base
     requires { ⌜ (p < maxBases) × Down maxBases (now l) ⌝ }
     ensures { λ r. ⌜ (r < maxBases) × (getD (now (l .entry)) r 0 ≡ r) × ((f : ℕ → ℕ) → Forest maxBases (now (l .entry)) f → f r ≡ f p) ⌝ }
@@ -72,6 +72,7 @@ fn root(l: &[Base; MAX_BASES], p: Base) -> Base
 }
 
 // One more bond: the higher root goes under the lower. Where they are one nothing changes.
+// The parents are those that `relabel` began with and this function changed; its caller knows the ends' range.
 fn unite(l: &mut [Base; MAX_BASES], b: Bond)
     requires { ⌜ (length (now l) ≡ maxBases) × Within maxBases b × Down maxBases (now l) ⌝ }
     ensures { λ _. ⌜ (length (now (l .exit)) ≡ maxBases) × Down maxBases (now (l .exit)) × ((bs : List Bond) → Spans maxBases (now (l .entry)) bs → Spans maxBases (now (l .exit)) (put sameBond lessBond b bs)) ⌝ }
@@ -85,7 +86,7 @@ fn unite(l: &mut [Base; MAX_BASES], b: Bond)
     }
 }
 
-// Each base gets its root for a label.
+// Each base gets its root for a label: its parent's entry is its root already. `relabel` has united the bonds before.
 fn flatten(l: &mut [Base; MAX_BASES])
     requires { ⌜ (length (now l) ≡ maxBases) × Down maxBases (now l) ⌝ }
     ensures { λ _. ⌜ ((bs : List Bond) → Spans maxBases (now (l .entry)) bs → Parted maxBases (now (l .exit)) bs) ⌝ }
@@ -98,7 +99,7 @@ fn flatten(l: &mut [Base; MAX_BASES])
     }
 }
 
-// At first each base is its own parent.
+// At first each base is its own parent. The length is known to the callers of `label_in`.
 fn own_in(l: &mut [Base; MAX_BASES])
     requires { ⌜ length (now l) ≡ maxBases ⌝ }
     ensures { λ _. ⌜ now (l .exit) ≡ table maxBases (λ p. p) ⌝ }
@@ -110,7 +111,7 @@ fn own_in(l: &mut [Base; MAX_BASES])
     }
 }
 
-// The labels of the first `count` bonds, made anew over parents.
+// The labels of the first `count` bonds, made anew over parents. What it asks is what `label_in` asks.
 fn relabel<'a>(l: &mut [Base; MAX_BASES], lo: &'a [Base], hi: &'a [Base], count: usize)
     requires { ⌜ (length (now l) ≡ maxBases) × (count ≤ length (now lo)) × (count ≤ length (now hi)) ⌝ }
     requires { ⌜ ((i : ℕ) → i < count → (getD (now lo) i 0 < maxBases) × (getD (now hi) i 0 < maxBases)) ⌝ }
@@ -129,7 +130,7 @@ fn relabel<'a>(l: &mut [Base; MAX_BASES], lo: &'a [Base], hi: &'a [Base], count:
     flatten(l);
 }
 
-// The set of each label: at first none has a base, then each base goes into its label's.
+// The set of each label: at first none has a base, then each base goes into its label's. The labels are `relabel`'s.
 fn set_members(l: &[Base; MAX_BASES], members: &mut [u64; MAX_BASES])
     requires { ⌜ ((p : ℕ) → p < maxBases → labelIn (now l) p < maxBases) ⌝ }
     ensures { λ _. ⌜ (length (now (members .exit)) ≡ maxBases) × ((x : ℕ) → x < maxBases → setOf maxBases (getD (now (members .exit)) x 0) ≡ table maxBases (λ q. eqb x (labelIn (now (l .entry)) q))) ⌝ }

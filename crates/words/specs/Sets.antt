@@ -1,6 +1,6 @@
 -- A set of bases as a machine word: base p is in it where bit p is set (01, the record: the moved parts of a firing).
 -- Definitions only. A set is a list of flags, one for each base.
-use mathlib.Core.Bool.{Bool, _||_}
+use mathlib.Core.Bool.{Bool, true, not, _&&_, _||_}
 use mathlib.Core.List.{List, [], _∷_}
 use Prim.Native.Nat.{ℕ, zero, suc, _+_, _*_, _/_, _%_}
 use lib.Dec.{eqb}
@@ -21,3 +21,9 @@ abbrev pub either : List Bool → List Bool → List Bool
 either [] n = []
 either (a ∷ m) [] = []
 either (a ∷ m) (b ∷ n) = (a || b) ∷ either m n
+
+-- every base of one set is in the other
+abbrev pub inside : List Bool → List Bool → Bool
+inside [] n = true
+inside (a ∷ m) [] = not a && inside m []
+inside (a ∷ m) (b ∷ n) = (not a || b) && inside m n

@@ -1,10 +1,17 @@
 -- `labels::join` meets its contract.
 -- Assumes nothing.
+use Prim.Native.Nat.{_<_}
 use native.Mathlib.Omega.{arith}
 use borrow.Author.Needs.{needs}
+use Rattle.net.specs.Limits.{maxBases}
+use Rattle.labels.specs.Labelled.{labelIn}
 use Rattle.labels.proofs.Members.{labelled-join, labelled-stay, fits-join}
 use Rattle.labels.proofs.join.Statement.{statement}
 use Rattle.labels.proofs.join.Tie as tie
+
+-- both ends' labels are below the limit
+low : (s : tie.Start) → (labelIn (s .args .l .now) (s .args .b .lo) < maxBases) × (labelIn (s .args .l .now) (s .args .b .hi) < maxBases)
+low s = (s .pre .0 .2 (s .args .b .lo) (s .pre .1 .0), s .pre .0 .2 (s .args .b .hi) (s .pre .1 .1))
 
 cast-to : tie.Need-cast-to
 cast-to c = search needs
@@ -25,38 +32,32 @@ returns c =
 
 cast-x : tie.Need-cast-x
 cast-x c =
-    let s : tie.Start = c .before .before .before .before .before in
-    let h = s .pre .0 .2 (s .args .b .lo) (s .pre .1 .0) in
+    let h = low (c .before .before .before .before .before) in
     record { fits = omega arith }
 
 cast-y : tie.Need-cast-y
 cast-y c =
-    let s : tie.Start = c .before .before .before .before .before in
-    let h = s .pre .0 .2 (s .args .b .hi) (s .pre .1 .1) in
+    let h = low (c .before .before .before .before .before) in
     record { fits = omega arith }
 
 mul-union : tie.Need-mul-union
 mul-union c =
-    let s : tie.Start = c .before .before .before .before .before in
-    let h = s .pre .0 .2 (s .args .b .lo) (s .pre .1 .0) in
+    let h = low (c .before .before .before .before .before) in
     record { fits = omega arith }
 
 element-copy-out-union : tie.Need-element-copy-out-union
 element-copy-out-union c =
-    let s : tie.Start = c .before .before .before .before .before in
-    let h = s .pre .0 .2 (s .args .b .lo) (s .pre .1 .0) in
+    let h = low (c .before .before .before .before .before) in
     omega arith
 
 mul-union-2 : tie.Need-mul-union-2
 mul-union-2 c =
-    let s : tie.Start = c .before .before .before .before .before .before in
-    let h = s .pre .0 .2 (s .args .b .hi) (s .pre .1 .1) in
+    let h = low (c .before .before .before .before .before .before) in
     record { fits = omega arith }
 
 element-copy-out-union-2 : tie.Need-element-copy-out-union-2
 element-copy-out-union-2 c =
-    let s : tie.Start = c .before .before .before .before .before .before in
-    let h = s .pre .0 .2 (s .args .b .hi) (s .pre .1 .1) in
+    let h = low (c .before .before .before .before .before .before) in
     omega arith
 
 union-requires : tie.Need-union-requires
@@ -64,14 +65,12 @@ union-requires c κs = search needs
 
 mul-members : tie.Need-mul-members
 mul-members c =
-    let s : tie.Start = c .before .before .before .before .before .before .before .before in
-    let h = s .pre .0 .2 (s .args .b .lo) (s .pre .1 .0) in
+    let h = low (c .before .before .before .before .before .before .before .before) in
     record { fits = omega arith }
 
 element-write-members : tie.Need-element-write-members
 element-write-members c =
-    let s : tie.Start = c .before .before .before .before .before .before .before .before in
-    let h = s .pre .0 .2 (s .args .b .lo) (s .pre .1 .0) in
+    let h = low (c .before .before .before .before .before .before .before .before) in
     omega arith
 
 rename-in-requires : tie.Need-rename-in-requires
