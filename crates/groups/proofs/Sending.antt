@@ -15,6 +15,8 @@ use Rattle.net.specs.declared.Bond.{Bond}
 use Rattle.net.specs.declared.Entry.{Entry}
 use Rattle.net.proofs.Tests.{pick-same}
 use Rattle.net.proofs.Tables.{length-table, getD-table, table-cong, table-list}
+use Rattle.words.specs.Sets.{inside}
+use Rattle.words.proofs.Bits.{inside-e}
 use Rattle.bonds.proofs.Fill.{drop-back}
 use Rattle.labels.specs.Labelled.{labelIn, Parted}
 use Rattle.groups.specs.Groups.{firsts}
@@ -54,6 +56,20 @@ module _ (N n : ℕ) (may : ℕ → Bool) (give : Entry → ℕ) (lab : ℕ → 
 
   pub sent-length : (L : ℕ) (l : List ℕ) → l ≡ sentFrom L → length l ≡ N
   sent-length L l z = ap length z ∙ length-table N (place (drop L (table n f)))
+
+-- ---- a group that moved whole
+
+own-goes : (may own : Bool) → (own ≡ true → may ≡ true) → own ≡ (may && own)
+own-goes true own h = refl
+own-goes false true h = sym (h refl)
+own-goes false false h = refl
+
+-- m is the set of the bases with label x, and they are all in w: sending them is sending those of w
+pub whole-goes : (N x : ℕ) (lab : ℕ → ℕ) (m w : List Bool) → m ≡ table N (λ p. eqb x (lab p)) → inside m w ≡ true → (v : ℕ) (old : ℕ → ℕ)
+    → table N (λ p. pick (eqb x (lab p)) v (old p)) ≡ table N (λ p. pick (getD w p false && eqb x (lab p)) v (old p))
+whole-goes N x lab m w e h v old = table-cong N (λ p. pick (eqb x (lab p)) v (old p)) (λ p. pick (getD w p false && eqb x (lab p)) v (old p))
+    (λ p k. ap (λ (b : Bool). pick b v (old p)) (own-goes (getD w p false) (eqb x (lab p))
+    (λ q. inside-e m w h p (ap (λ (s : List Bool). getD s p false) e ∙ getD-table N (λ r. eqb x (lab r)) p false k ∙ q))))
 
 -- ---- any partition
 

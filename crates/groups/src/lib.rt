@@ -21,6 +21,7 @@ use net::MAX_BASES;
 use net::Place;
 use words::has_base;
 use words::union;
+use words::within;
 
 // The moved bases: those of every group that an entry hits. Callers have labels by the bonds of a marking, and their entries
 // are of bases of the net, here and below.
@@ -116,6 +117,11 @@ fn send_moved(
         ≡ table maxBases (λ p. pick (getD (setOf maxBases moved) p false && eqb x (labelIn (now (l .entry)) p)) to
         (getD (now (places .entry)) p 0)) ⌝ }
 {
+    let whole = within(members[x as usize], moved);
+    if whole {
+        send_group(l, places, x, to);
+        return;
+    }
     send_some(l, places, moved, x, to);
 }
 
