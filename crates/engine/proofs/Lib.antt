@@ -4,3 +4,4 @@ pub mod Removing
 pub mod Labels
 pub mod Sending
 pub mod Whole
+pub mod Moved

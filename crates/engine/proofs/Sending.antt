@@ -28,7 +28,7 @@ use Rattle.groups.proofs.Sending.{sent-parted}
 use Rattle.enabling.specs.Ready.{Ready}
 use Rattle.enabling.proofs.Readiness.{entry-low, places-length}
 
-table-split : {X : Type 0} (m k : ℕ) (f : ℕ → X) → table (m + k) f ≡ table m f ++ table k (λ j. f (m + j))
+pub table-split : {X : Type 0} (m k : ℕ) (f : ℕ → X) → table (m + k) f ≡ table m f ++ table k (λ j. f (m + j))
 table-split zero k f =
     let e : zero + k ≡ k = omega arith in
     ap (λ (n : ℕ). table n f) e ∙ table-cong k f (λ j. f (zero + j)) (λ p _. let q : p ≡ zero + p = omega arith in ap f q)
@@ -54,7 +54,7 @@ module _ (n : ℕ) (t : Arcs) (m : Marking) (R : Ready n t m) where
       to (inr d) = let (u, v) = R .range (bond r p) d in lt-trans u v
 
   -- so no entry sends what is no base of the net
-  apart : (e : Entry) → Mem e (t .entries) → (p : ℕ) → n ≤ p → connected (bondsOf m) (e .base) p ≡ false
+  pub apart : (e : Entry) → Mem e (t .entries) → (p : ℕ) → n ≤ p → connected (bondsOf m) (e .base) p ≡ false
   apart e d p h = fails (connected (bondsOf m) (e .base) p)
       (λ c. let low = stays-low (connected-leads (bondsOf m) (e .base) p c) (R .bases e d) in let z : ⊥ = omega arith in z)
 
