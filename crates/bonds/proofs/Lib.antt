@@ -1,4 +1,6 @@
--- Laws that the proofs of this crate's functions cite, and the crates above: loops that fill a list, labels after a bond.
+-- Laws that the proofs of this crate's functions cite, and the crates above: loops that fill a list, lists changed in
+-- place, ascending tables, the range of labels.
 pub mod Fill
 pub mod InPlace
+pub mod Halves
 pub mod Renaming
