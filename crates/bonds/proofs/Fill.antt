@@ -49,6 +49,16 @@ module _ {X : Type 0} where
   pub has-more : (eq : X → X → Bool) (x : X) (n : ℕ) (f : ℕ → X) → has eq x (table (n + 1) f) ≡ (has eq x (table n f) || eq x (f n))
   has-more eq x n f = ap (has eq x) (table-more n f) ∙ has-append eq x (table n f) (f n ∷ []) ∙ ap (λ (b : Bool). has eq x (table n f) || b) (or-false (eq x (f n)))
 
+  count-append : (t : X → Bool) (l k : List X) → count t (l ++ k) ≡ count t l + count t k
+  count-append t [] k = omega arith
+  count-append t (y ∷ l) k = let e = count-append t l k in omega arith
+
+  pub count-more : (t : X → Bool) (n : ℕ) (f : ℕ → X) → count t (table (n + 1) f) ≡ count t (table n f) + pick (t (f n)) 1 0
+  count-more t n f =
+      let a : count t (table (n + 1) f) ≡ count t (table n f ++ (f n ∷ [])) = ap (count t) (table-more n f) in
+      let b = count-append t (table n f) (f n ∷ []) in
+      omega arith
+
   pub count-le : (t : X → Bool) (l : List X) → count t l ≤ length l
   count-le t [] = omega arith
   count-le t (y ∷ l) = let a = count-le t l in let b = pick-one (t y) in omega arith
