@@ -6,20 +6,18 @@ use mathlib.Core.List.{List, [], _∷_, _++_}
 use Prim.Native.Nat.{ℕ, _<_}
 use lib.Dec.{eqb}
 use lib.ListN.{length, getD}
+use borrow.Author.Tests.{eqb-true}
 use Rattle.net.specs.Tests.{pick, table}
 use Rattle.net.specs.Sorted.{put}
 use Rattle.net.specs.Net.{bond, sameBond, lessBond, hasBond}
 use Rattle.net.specs.Connection.{relabelled, labelling, label, connected}
 use Rattle.net.specs.declared.Bond.{Bond}
 use Rattle.net.proofs.Tests.{pick-case}
-use Rattle.net.proofs.Tables.{length-table, getD-table}
+use Rattle.net.proofs.Tables.{length-table, getD-table, table-cong, table-list}
 use Rattle.net.proofs.Sorted.{has-put}
 use Rattle.net.proofs.Bonds.{bond-order}
 use Rattle.net.proofs.Connection.{connected-alike}
-use Rattle.bonds.specs.Ends.{renamed}
-use Rattle.bonds.proofs.Fill.{table-map}
-use Rattle.bonds.proofs.Renaming.{same-join}
-use Rattle.labels.specs.Labelled.{labelIn, Parted, Within}
+use Rattle.labels.specs.Labelled.{labelIn, renamed, Parted, Within}
 
 -- ---- the order of the bonds plays no part
 
@@ -55,13 +53,14 @@ joined-alike f g b p q pq ph qh pl lq ll =
     go false true = pl
     go false false = pq
 
+-- a label that gives way to itself
+renamed-same : (x y z : ℕ) → x ≡ y → z ≡ renamed y x z
+renamed-same x y z e = pick-case (λ (v : ℕ). z ≡ v) (eqb z y) x z (λ q. eqb-true z y q ∙ sym e) (λ _. refl)
+
 module _ (N : ℕ) where
   -- the same bonds in another order, or with repeats
   pub parted-same : (bs cs : List Bond) → ((b : Bond) → hasBond b bs ≡ hasBond b cs) → (l : List ℕ) → Parted N l bs → Parted N l cs
   parted-same bs cs h l P = record { size = P .size; low = P .low; says = λ p q j k. P .says p q j k ∙ connected-same bs cs h p q }
-
-  pub join-size : (l r : List ℕ) (x y : ℕ) → r ≡ table N (λ p. renamed x y (getD l p 0)) → length r ≡ N
-  join-size l r x y e = ap length e ∙ length-table N (λ p. renamed x y (getD l p 0))
 
   -- one more bond: the label of its second end gives way to that of its first
   pub parted-join : (bs : List Bond) (b : Bond) → Within N b → (l r : List ℕ) → r ≡ table N (λ p. renamed (labelIn l (b .hi)) (labelIn l (b .lo)) (labelIn l p))
@@ -80,5 +79,7 @@ module _ (N : ℕ) where
   -- a bond whose ends have one label already changes nothing
   pub parted-stay : (bs : List Bond) (b : Bond) → Within N b → (l : List ℕ) → labelIn l (b .lo) ≡ labelIn l (b .hi) → Parted N l bs → Parted N l (put sameBond lessBond b bs)
   parted-stay bs b w l e P =
-      let g : ℕ → ℕ = λ p. renamed (labelIn l (b .hi)) (labelIn l (b .lo)) (labelIn l p) in
-      parted-join bs b w l l (same-join l (b .lo) (b .hi) e ∙ sym (table-map (renamed (labelIn l (b .hi)) (labelIn l (b .lo))) l 0) ∙ ap (λ (k : ℕ). table k g) (P .size)) P
+      let x : ℕ = labelIn l (b .lo) in
+      let y : ℕ = labelIn l (b .hi) in
+      parted-join bs b w l l (sym (table-list l 0) ∙ ap (λ (k : ℕ). table k (labelIn l)) (P .size)
+      ∙ table-cong N (labelIn l) (λ p. renamed y x (labelIn l p)) (λ p k. renamed-same x y (labelIn l p) e)) P

@@ -19,8 +19,7 @@ use Rattle.net.proofs.Tests.{pick-case}
 use Rattle.net.proofs.Tables.{length-table, getD-table, table-cong}
 use Rattle.words.specs.Sets.{setOf, either}
 use Rattle.words.proofs.Bits.{either-table}
-use Rattle.bonds.specs.Ends.{renamed}
-use Rattle.labels.specs.Labelled.{labelIn, Labelled, Within, Fits}
+use Rattle.labels.specs.Labelled.{labelIn, renamed, Labelled, Within, Fits}
 use Rattle.labels.proofs.Joining.{parted-join, parted-stay}
 
 -- what has label x once y is renamed to x

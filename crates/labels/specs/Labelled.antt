@@ -6,7 +6,7 @@ use Prim.Native.Nat.{ℕ, _<_}
 use lib.Dec.{eqb}
 use lib.ListN.{length, getD}
 use Rattle.net.specs.Limits.{maxBases}
-use Rattle.net.specs.Tests.{table}
+use Rattle.net.specs.Tests.{pick, table}
 use Rattle.net.specs.Connection.{connected}
 use Rattle.net.specs.declared.Bond.{Bond}
 use Rattle.words.specs.Sets.{setOf}
@@ -27,6 +27,10 @@ pub record Labelled (l members : List ℕ) (bs : List Bond) : Type 0 where
   pub size : length members ≡ maxBases
   pub holds : (p : ℕ) → p < maxBases
       → setOf maxBases (getD members (labelIn l p) 0) ≡ table maxBases (λ q. eqb (labelIn l p) (labelIn l q))
+
+-- a label after one label gave way to another
+abbrev pub renamed : ℕ → ℕ → ℕ → ℕ
+renamed from to x = pick (eqb x from) to x
 
 -- a bond whose ends have labels
 abbrev pub Within : ℕ → Bond → Type 0

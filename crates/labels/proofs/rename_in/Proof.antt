@@ -8,7 +8,7 @@ use lib.ListN.{length, getD, drop}
 use borrow.Author.Needs.{needs}
 use Rattle.net.specs.Limits.{maxBases}
 use Rattle.net.specs.Tests.{table}
-use Rattle.bonds.specs.Ends.{renamed}
+use Rattle.labels.specs.Labelled.{renamed}
 use Rattle.bonds.proofs.Fill.{fill-turn, fill-end}
 use Rattle.bonds.proofs.InPlace.{read-ahead}
 use Rattle.labels.proofs.rename_in.Statement.{statement}
