@@ -225,7 +225,17 @@ fn undo_in(
         return refused_in(20, count, live);
     }
     let f = firing_at(transitions, keys, moved, i);
-    let left = steps::undo_in(sheet, places, count, lo, hi, l, members, f.transition_of(), f.moved);
+    let left = steps::undo_in(
+        sheet,
+        places,
+        count,
+        lo,
+        hi,
+        l,
+        members,
+        f.transition_of(),
+        f.moved,
+    );
     close_up(transitions, keys, moved, live, i);
     Done {
         answer: Answer::Undone,
@@ -270,14 +280,53 @@ pub fn perform_in(
     };
     match c {
         Command::Fire(t) => {
-            fire_in(sheet, t, places, count, lo, hi, live, transitions, keys, moved, l, members)
+            fire_in(
+                sheet,
+                t,
+                places,
+                count,
+                lo,
+                hi,
+                live,
+                transitions,
+                keys,
+                moved,
+                l,
+                members,
+            )
         }
         Command::Undo(k) => {
-            undo_in(sheet, k, places, count, lo, hi, live, transitions, keys, moved, l, members)
+            undo_in(
+                sheet,
+                k,
+                places,
+                count,
+                lo,
+                hi,
+                live,
+                transitions,
+                keys,
+                moved,
+                l,
+                members,
+            )
         }
         Command::UndoLast => {
             let k = last_key(keys, live);
-            undo_in(sheet, k, places, count, lo, hi, live, transitions, keys, moved, l, members)
+            undo_in(
+                sheet,
+                k,
+                places,
+                count,
+                lo,
+                hi,
+                live,
+                transitions,
+                keys,
+                moved,
+                l,
+                members,
+            )
         }
     }
 }

@@ -2,14 +2,15 @@
 -- Assumes nothing.
 use mathlib.Core.Path.{_≡_, refl, sym, _∙_, ap}
 use mathlib.Core.Bool.{Bool, true, false, _&&_, Bool·beq}
-use mathlib.Core.List.{List, _∷_}
+use mathlib.Core.List.{List, [], _∷_}
 use Prim.Native.Nat.{ℕ, suc, _+_, _*_, _-_, _^_, _<_, _≤_}
 use native.Mathlib.Omega.{arith}
 use native.Mathlib.Numerals.{add-one}
 use lib.Dec.{eqb}
-use lib.ListN.{length, drop, drop-of-length-le}
+use lib.ListN.{length, getD, drop, drop-of-length-le}
 use lib.Seq.{drop-cons}
 use borrow.Author.Tests.{eqb-true, eq-eqb, ne-eqb, leb-false}
+use Rattle.causal.proofs.Tests.{both}
 use Rattle.net.specs.Limits.{maxBases, maxBonds}
 use Rattle.net.specs.Tests.{sameList}
 use Rattle.net.specs.Net as Net
@@ -33,9 +34,12 @@ use Rattle.words.proofs.Bits.{set-packed, packed-set}
 use Rattle.marking.specs.Form.{bondsOf, markingOf, laid}
 use Rattle.marking.specs.declared.Marking.{Marking}
 use Rattle.marking.proofs.Forms.{marking-laid}
+use Rattle.marking.proofs.Lent.{lo-length, hi-length}
 use Rattle.firings.specs.Lines.{firingAt, asLine, linesIn}
 use Rattle.firings.specs.declared.Firing.{Firing}
 use Rattle.firings.specs.declared.Firings.{Firings}
+use Rattle.enabling.specs.Ready.{Ready}
+use Rattle.enabling.proofs.Readiness.{in-order, ends-low}
 use Rattle.steps.specs.Placed.{Placed}
 use Rattle.steps.proofs.Arcs.{arcs-of, count-of}
 use Rattle.steps.proofs.Readiness.{few-bases, fit}
@@ -73,6 +77,27 @@ placed-room s m P =
     let size : length (bondsOf m) ≡ m .count = length-table (m .count) (ends (m .lo) (m .hi)) in
     let most : 2 * length (bondsOf m) ≤ maxBases * (maxBases - 1) = bonds-fit (basesOf s) maxBases (few-bases s m P) (bondsOf m) (P .good .order) (P .good .range) in
     omega arith
+
+-- what is known of the marking alone, with no transition
+placed-ready : (s : List ℕ) (m : Marking) → Placed s m → Ready (basesOf s) (record { entries = []; inBonds = []; outBonds = [] }) m
+unfolding netOf
+placed-ready s m P = record {
+  few = few-bases s m P;
+  form = P .form;
+  order = P .good .order;
+  range = P .good .range;
+  bases = λ e h. absurd h;
+  outs = λ b h. both false h refl;
+}
+
+-- what labels of its bonds ask: they fit, and their ends are below the limit
+pub placed-fits : (s : List ℕ) (m : Marking) → Placed s m → (m .count ≤ length (m .lo)) × (m .count ≤ length (m .hi))
+placed-fits s m P =
+    let I = in-order (basesOf s) (record { entries = []; inBonds = []; outBonds = [] }) m (placed-ready s m P) in
+    (rw (lo-length m I) (I .room), rw (hi-length m I) (I .room))
+
+pub placed-ends : (s : List ℕ) (m : Marking) → Placed s m → (i : ℕ) → i < m .count → (getD (m .lo) i 0 < maxBases) × (getD (m .hi) i 0 < maxBases)
+placed-ends s m P = ends-low (basesOf s) (record { entries = []; inBonds = []; outBonds = [] }) m (placed-ready s m P)
 
 -- ---- a firing as a line
 
@@ -152,3 +177,14 @@ module _ (s : List ℕ) (f : Firings) where
   run-ends z m i h =
       let size : length lines ≤ i = rw length-table h in
       ap (λ (ls : List LiveLine). replays (netOf s) (markingOf (basesOf s) m) ls z) (drop-of-length-le lines size)
+
+-- ---- what a run answers
+
+-- a firing of it was not accepted
+pub run-refused : (w r x : Bool) → w ≡ (r && x) → r ≡ false → false ≡ w
+run-refused w r x e h = sym (e ∙ ap (λ (b : Bool). b && x) h)
+
+-- all were, and the marking after them is compared with the one that is looked for
+pub run-compared : (n k : ℕ) (m z : Marking) (w r b : Bool) → k ≡ n → w ≡ (r && sameMarking (markingOf n m) (markingOf n z)) → r ≡ true → b ≡ sameMarking (markingOf k m) (markingOf k z) → b ≡ w
+run-compared n k m z w r b e q h c =
+    c ∙ (λ i. sameMarking (markingOf (e i) m) (markingOf (e i) z)) ∙ ap (λ (x : Bool). x && sameMarking (markingOf n m) (markingOf n z)) (sym h) ∙ sym q

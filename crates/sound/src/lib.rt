@@ -84,12 +84,12 @@ fn replay_one(
 
 // Runs the live firings forward in their order, from the marking that is lent. Where all are accepted, the arrays hold the
 // marking after them. `runs_to` has what this asks.
-fn replay(
+fn replay<'a>(
     sheet: &[u8],
     live: usize,
-    transitions: &[u8; MAX_LIVE],
-    keys: &[u16; MAX_LIVE],
-    moved: &[u64; MAX_LIVE],
+    transitions: &'a [u8; MAX_LIVE],
+    keys: &'a [u16; MAX_LIVE],
+    moved: &'a [u64; MAX_LIVE],
     places: &mut [Place; MAX_BASES],
     count: usize,
     lo: &mut [Base; MAX_BONDS],
@@ -131,16 +131,16 @@ fn replay(
 
 // Whether the live firings, run forward alone from the sheet's start, are accepted and end in the marking that is lent.
 // `is_sound` has an accepted sheet, and has seen that marking and firings are in their form.
-fn runs_to(
+fn runs_to<'a>(
     sheet: &[u8],
     live: usize,
-    transitions: &[u8; MAX_LIVE],
-    keys: &[u16; MAX_LIVE],
-    moved: &[u64; MAX_LIVE],
-    places: &[Place; MAX_BASES],
+    transitions: &'a [u8; MAX_LIVE],
+    keys: &'a [u16; MAX_LIVE],
+    moved: &'a [u64; MAX_LIVE],
+    places: &'a [Place; MAX_BASES],
     count: usize,
-    lo: &[Base; MAX_BONDS],
-    hi: &[Base; MAX_BONDS],
+    lo: &'a [Base; MAX_BONDS],
+    hi: &'a [Base; MAX_BONDS],
 ) -> bool
     requires { ⌜ (clear (sheetChecks (now sheet)) ≡ true) × (live ≤ maxLive) × (count ≤ maxBonds) ⌝ }
     requires { ⌜ ((i : ℕ) → i < live → getD (now moved) i 0 < 2 ^ basesOf (now sheet)) ⌝ }
@@ -179,16 +179,16 @@ fn runs_to(
 
 // Whether what a record holds is sound for the sheet; where it is, its arrays are laid out as what it holds is.
 // Callers have checked the sheet.
-pub fn is_sound(
+pub fn is_sound<'a>(
     sheet: &[u8],
     live: usize,
-    transitions: &[u8; MAX_LIVE],
-    keys: &[u16; MAX_LIVE],
-    moved: &[u64; MAX_LIVE],
-    places: &[Place; MAX_BASES],
+    transitions: &'a [u8; MAX_LIVE],
+    keys: &'a [u16; MAX_LIVE],
+    moved: &'a [u64; MAX_LIVE],
+    places: &'a [Place; MAX_BASES],
     count: usize,
-    lo: &[Base; MAX_BONDS],
-    hi: &[Base; MAX_BONDS],
+    lo: &'a [Base; MAX_BONDS],
+    hi: &'a [Base; MAX_BONDS],
 ) -> bool
     requires { ⌜ clear (sheetChecks (now sheet)) ≡ true ⌝ }
     ensures { λ r. ⌜
