@@ -72,12 +72,18 @@ fn root(l: &[Base; MAX_BASES], p: Base) -> Base
 }
 
 // One more bond: the higher root goes under the lower. Answers how many roots fewer there are: 1, or 0 where it is one root.
+// Where the ends have one parent nothing is to be done: so it is with most of many bonds.
 // The parents are those that `unite_all` began with and this function changed; its caller knows the ends' range.
 fn unite(l: &mut [Base; MAX_BASES], b: Bond) -> usize
     requires { ⌜ (length (now l) ≡ maxBases) × Within maxBases b × Down maxBases (now l) ⌝ }
     ensures { λ r. ⌜ ((n : ℕ) → n ≤ maxBases → Within n b → rootsBelow n (now (l .exit)) + r ≡ rootsBelow n (now (l .entry))) ⌝ }
     ensures { λ _. ⌜ ((bs : List Bond) → Spans maxBases (now (l .entry)) bs → Spans maxBases (now (l .exit)) (put sameBond lessBond b bs)) ⌝ }
 {
+    let p = l[b.lo as usize];
+    let q = l[b.hi as usize];
+    if p == q {
+        return 0;
+    }
     let x = root(l, b.lo);
     let y = root(l, b.hi);
     if x < y {

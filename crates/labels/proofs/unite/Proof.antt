@@ -11,6 +11,27 @@ use Rattle.labels.proofs.Roots.{roots-less}
 use Rattle.labels.proofs.unite.Statement.{statement}
 use Rattle.labels.proofs.unite.Tie as tie
 
+cast-p : tie.Need-cast-p
+cast-p c = search needs
+
+element-copy-out-p : tie.Need-element-copy-out-p
+element-copy-out-p c = search needs
+
+cast-q : tie.Need-cast-q
+cast-q c = search needs
+
+element-copy-out-q : tie.Need-element-copy-out-q
+element-copy-out-q c = search needs
+
+returns : tie.Need-returns
+returns c =
+    let s : tie.Start = c .before .before .before .before .before in
+    let (hl, hh) = s .pre .1 in (
+      λ n k w. omega arith,
+      λ bs S. let F = S .forest in
+          spans-stay maxBases (s .args .l .now) (s .args .b) (hl, hh) bs S (sym (F .up (s .args .b .lo) hl) ∙ ap (S .root) (c .if1 .taken) ∙ F .up (s .args .b .hi) hh),
+    )
+
 root-requires : tie.Need-root-requires
 root-requires c κs = search needs
 
@@ -23,11 +44,11 @@ cast-l c = search needs
 element-write-l : tie.Need-element-write-l
 element-write-l c = search needs
 
-returns : tie.Need-returns
-returns c =
+returns-2 : tie.Need-returns-2
+returns-2 c =
     let r2 : tie.After-root2 = c .before in
     let r1 : tie.After-root = r2 .before .before in
-    let s : tie.Start = r1 .before .before in
+    let s : tie.Start = r1 .before .before .before .before .before .before .before in
     let l : List ℕ = s .args .l .now in
     let x : ℕ = r1 .root .result in
     let y : ℕ = r2 .root2 .result in
@@ -46,11 +67,11 @@ cast-l-2 c = search needs
 element-write-l-2 : tie.Need-element-write-l-2
 element-write-l-2 c = search needs
 
-returns-2 : tie.Need-returns-2
-returns-2 c =
+returns-3 : tie.Need-returns-3
+returns-3 c =
     let r2 : tie.After-root2 = c .before .before in
     let r1 : tie.After-root = r2 .before .before in
-    let s : tie.Start = r1 .before .before in
+    let s : tie.Start = r1 .before .before .before .before .before .before .before in
     let l : List ℕ = s .args .l .now in
     let x : ℕ = r1 .root .result in
     let y : ℕ = r2 .root2 .result in
@@ -63,11 +84,11 @@ returns-2 c =
       spans-down maxBases l (s .args .b) (hl, hh) x y (omega arith) tx ty rx ry (omega arith) (omega arith),
     )
 
-returns-3 : tie.Need-returns-3
-returns-3 c =
+returns-4 : tie.Need-returns-4
+returns-4 c =
     let r2 : tie.After-root2 = c .before .before in
     let r1 : tie.After-root = r2 .before .before in
-    let s : tie.Start = r1 .before .before in
+    let s : tie.Start = r1 .before .before .before .before .before .before .before in
     let l : List ℕ = s .args .l .now in
     let x : ℕ = r1 .root .result in
     let y : ℕ = r2 .root2 .result in
@@ -84,12 +105,17 @@ pub unite-spec : {M : Type 1} → statement M
 unite-spec =
     tie.close
     (tie.spec
+    cast-p
+    element-copy-out-p
+    cast-q
+    element-copy-out-q
+    returns
     root-requires
     root-requires-2
     cast-l
     element-write-l
-    returns
+    returns-2
     cast-l-2
     element-write-l-2
-    returns-2
-    returns-3)
+    returns-3
+    returns-4)
