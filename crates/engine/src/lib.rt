@@ -114,10 +114,10 @@ fn join_out_bonds(step: &[u8], l: &mut [Base; MAX_BASES], members: &mut [u64; MA
         ((bs : List Bond) → Labelled (now (l .entry)) (now (members .entry)) bs
         → Labelled (now (l .exit)) (now (members .exit)) (puts sameBond lessBond (arcsIn (now (step .entry)) .outBonds) bs)) ⌝ }
 {
-    let mut left = out_count(step);
-    while 0 < left {
-        left -= 1;
-        let b = out_bond(step, left);
+    let mut rest = out_count(step);
+    while 0 < rest {
+        rest -= 1;
+        let b = out_bond(step, rest);
         join(l, members, b);
     }
 }
