@@ -14,7 +14,6 @@ use Rattle.net.specs.Tests.{any, table}
 use Rattle.net.specs.Net.{Arcs, Marking}
 use Rattle.net.specs.Connection.{connected}
 use Rattle.net.specs.Firing.{tornApart}
-use Rattle.net.specs.declared.Bond.{Bond}
 use Rattle.net.specs.declared.Entry.{Entry}
 use Rattle.net.proofs.Tests.{same-test, and-l, and-r, and-i, any-e, any-i, any-cong}
 use Rattle.net.proofs.Tables.{getD-table}

@@ -2,7 +2,7 @@
 -- Assumes nothing but the laws of proofs/.
 use native.Mathlib.Omega.{arith}
 use mathlib.Core.Path.{_≡_, sym, _∙_}
-use Prim.Native.Nat.{ℕ, _-_, _<_}
+use Prim.Native.Nat.{ℕ, _<_}
 use mathlib.Core.List.{List}
 use mathlib.Core.Bool.{false}
 use Rattle.net.specs.Net as Net
