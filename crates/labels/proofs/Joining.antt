@@ -54,7 +54,7 @@ joined-alike f g b p q pq ph qh pl lq ll =
     go false false = pq
 
 -- a label that gives way to itself
-renamed-same : (x y z : ℕ) → x ≡ y → z ≡ renamed y x z
+pub renamed-same : (x y z : ℕ) → x ≡ y → z ≡ renamed y x z
 renamed-same x y z e = pick-case (λ (v : ℕ). z ≡ v) (eqb z y) x z (λ q. eqb-true z y q ∙ sym e) (λ _. refl)
 
 module _ (N : ℕ) where

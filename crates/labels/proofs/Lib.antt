@@ -2,4 +2,5 @@
 pub mod Joining
 pub mod Members
 pub mod Trees
+pub mod Roots
 pub mod Gathering

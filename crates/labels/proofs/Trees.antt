@@ -1,29 +1,29 @@
 -- Laws of parents that are never higher: two trees united, and the trees flattened.
 -- Assumes nothing. N is the number of bases.
-use mathlib.Core.Path.{_≡_, refl, sym, _∙_, ap, subst}
-use mathlib.Core.Bool.{Bool, true, false, _||_, and-comm, or-false}
+use mathlib.Core.Path.{_≡_, refl, sym, _∙_, ap}
+use mathlib.Core.Bool.{Bool, true, false, _||_, and-comm, or-comm}
 use mathlib.Core.List.{List, [], _++_}
-use Prim.Native.Nat.{ℕ, _-_, _<_, _≤_}
+use Prim.Native.Nat.{ℕ, _+_, _<_, _≤_}
 use native.Mathlib.Omega.{arith}
 use lib.Dec.{eqb, ltb}
-use lib.ListN.{length, getD, drop, set, length-set, List·getD-append, drop-of-length-le}
+use lib.ListN.{length, getD, drop, set, length-set, List·getD-append}
 use lib.Seq.{getD-set-same, getD-set-other}
 use borrow.Author.Tests.{eqb-true, eqb-false, eq-eqb, ltb-true, ltb-false}
 use Rattle.causal.proofs.Tests.{test}
 use Rattle.net.specs.Tests.{pick, table}
-use Rattle.net.specs.Sorted.{put, puts}
+use Rattle.net.specs.Sorted.{put}
 use Rattle.net.specs.Net.{bond, sameBond, lessBond, hasBond}
 use Rattle.net.specs.Connection.{bonded, label, connected}
 use Rattle.net.specs.declared.Bond.{Bond}
 use Rattle.net.proofs.Tests.{pick-case, pick-same}
 use Rattle.net.proofs.Tables.{length-table, getD-table}
-use Rattle.net.proofs.Sorted.{has-put, has-puts}
+use Rattle.net.proofs.Sorted.{has-put}
 use Rattle.net.proofs.Bonds.{bond-order}
 use Rattle.net.proofs.Connection.{connected-alike}
-use Rattle.bonds.proofs.Fill.{drop-back}
+use Rattle.bonds.proofs.Fill.{has-more}
 use Rattle.bonds.proofs.InPlace.{read-ahead}
 use Rattle.labels.specs.Labelled.{Parted, Within}
-use Rattle.labels.proofs.Joining.{connected-put, joined-alike, parted-same}
+use Rattle.labels.proofs.Joining.{connected-same, connected-put, joined-alike, renamed-same}
 use Rattle.labels.specs.Forest.{Forest, Spans}
 
 -- ---- a bond turned round connects the same bases
@@ -87,6 +87,9 @@ module _ (N : ℕ) (l : List ℕ) (f : ℕ → ℕ) (F : Forest N l f) where
           ap g q ∙ g-y ∙ sym at-y ∙ ap (λ (j : ℕ). getD (set l y x) j 0) (sym q) ∙ t)
           (λ e. let r : f p ≡ p = F .top p k (sym (other p e) ∙ t) in
           ap (λ (z : ℕ). pick (eqb z y) x z) r ∙ ap (λ (b : Bool). pick b x p) e);
+      fixed = λ p k. pick-case (λ (z : ℕ). getD (set l y x) z 0 ≡ z) (eqb (f p) y) x (f p)
+          (λ _. test (eqb x y) (λ e. ap (λ (j : ℕ). getD (set l y x) j 0) (eqb-true x y e) ∙ at-y) (λ e. other x e ∙ tx))
+          (λ e. other (f p) e ∙ F .fixed p k);
     }
 
     united-says : (bs : List Bond) → ((p q : ℕ) → p < N → q < N → eqb (f p) (f q) ≡ connected bs p q) → (p q : ℕ) → p < N → q < N → eqb (g p) (g q) ≡ connected (put sameBond lessBond c bs) p q
@@ -163,23 +166,28 @@ module _ (N : ℕ) where
           low = λ p k. omega arith;
           up = λ p k. at p k;
           top = λ p k t. refl;
+          fixed = at;
         };
         says = λ p q j k. refl;
       }
 
-  -- the bonds from L on were united
-  module _ (n : ℕ) (g : ℕ → Bond) where
-    pub spans-none : (L : ℕ) → L ≡ n → (l : List ℕ) → l ≡ table N (λ p. p) → Spans N l (puts sameBond lessBond (drop L (table n g)) [])
-    spans-none L e l q =
-        let h : length (table n g) ≤ L = rw (length-table n g) (omega arith) in
-        subst (λ (cs : List Bond). Spans N l (puts sameBond lessBond cs [])) (sym (drop-of-length-le (table n g) h)) (spans-own l q)
+  -- a bond of two bases with one root changes nothing
+  pub spans-stay : (l : List ℕ) (b : Bond) → Within N b → (bs : List Bond) (S : Spans N l bs) → S .root (b .lo) ≡ S .root (b .hi) → Spans N l (put sameBond lessBond b bs)
+  spans-stay l b w bs S e =
+      let f = S .root in
+      record {
+        root = f;
+        forest = S .forest;
+        says = λ p q j k. (λ i. eqb (renamed-same (f (b .lo)) (f (b .hi)) (f p) e i) (renamed-same (f (b .lo)) (f (b .hi)) (f q) e i))
+            ∙ joined-alike f (label bs) b p q (S .says p q j k) (S .says p (b .hi) j (w .1)) (S .says q (b .hi) k (w .1)) (S .says p (b .lo) j (w .0)) (S .says (b .lo) q (w .0) k) (S .says (b .lo) (b .lo) (w .0) (w .0))
+            ∙ connected-put bs b p q;
+      }
 
-    pub spans-turn : (L : ℕ) (l r : List ℕ) → 0 < L → L ≤ n → ((bs : List Bond) → Spans N l bs → Spans N r (put sameBond lessBond (g (L - 1)) bs))
-        → Spans N l (puts sameBond lessBond (drop L (table n g)) []) → Spans N r (puts sameBond lessBond (drop (L - 1) (table n g)) [])
-    spans-turn L l r u v j S = subst (λ (cs : List Bond). Spans N r (puts sameBond lessBond cs [])) (sym (drop-back n L g u v)) (j (puts sameBond lessBond (drop L (table n g)) []) S)
-
-    pub parted-all : (L : ℕ) (l r : List ℕ) → L ≡ 0 → Spans N l (puts sameBond lessBond (drop L (table n g)) [])
-        → ((bs : List Bond) → Spans N l bs → Parted N r bs) → Parted N r (table n g)
-    parted-all L l r e S j =
-        parted-same N (puts sameBond lessBond (table n g) []) (table n g) (λ z. has-puts sameBond lessBond bond-order z (table n g) [] ∙ or-false (hasBond z (table n g))) r
-        (j (puts sameBond lessBond (table n g) []) (subst (λ (k : ℕ). Spans N l (puts sameBond lessBond (drop k (table n g)) [])) e S))
+  -- the first i bonds were united, and the next one
+  pub spans-more : (l : List ℕ) (i : ℕ) (g : ℕ → Bond) → Spans N l (put sameBond lessBond (g i) (table i g)) → Spans N l (table (i + 1) g)
+  spans-more l i g S = record {
+    root = S .root;
+    forest = S .forest;
+    says = λ p q j k. S .says p q j k ∙ connected-same (put sameBond lessBond (g i) (table i g)) (table (i + 1) g)
+        (λ z. has-put sameBond lessBond bond-order z (g i) (table i g) ∙ or-comm (sameBond z (g i)) (hasBond z (table i g)) ∙ sym (has-more sameBond z i g)) p q;
+  }

@@ -3,17 +3,17 @@
 ghost use mathlib.Core.Path.{_≡_};
 ghost use mathlib.Core.List.{List};
 ghost use lib.Dec.{eqb};
-ghost use Prim.Native.Nat.{ℕ, _<_, _≤_};
+ghost use Prim.Native.Nat.{ℕ, _+_, _<_, _≤_};
 ghost use lib.ListN.{length, getD};
 ghost use Rattle.net.specs.Limits.{maxBases};
 ghost use Rattle.net.specs.Tests.{table};
 ghost use Rattle.net.specs.Net.{sameBond, lessBond};
 ghost use Rattle.net.specs.Sorted.{put};
 ghost use Rattle.net.specs.declared.Bond.{Bond};
-ghost use Rattle.bonds.specs.Ends.{bondsIn};
+ghost use Rattle.bonds.specs.Ends.{ends, bondsIn};
 ghost use Rattle.words.specs.Sets.{setOf};
 ghost use Rattle.labels.specs.Labelled.{labelIn, renamed, Parted, Labelled, Within, Fits};
-ghost use Rattle.labels.specs.Forest.{Down, Forest, Spans};
+ghost use Rattle.labels.specs.Forest.{Down, Forest, Spans, rootsBelow};
 use net::Base;
 use net::Bond;
 use net::MAX_BASES;
@@ -60,7 +60,7 @@ pub fn join(l: &mut [Base; MAX_BASES], members: &mut [u64; MAX_BASES], b: Bond)
 // The root over p. Callers have united bonds only, so no parent is higher; the ends of bonds are below the limit.
 fn root(l: &[Base; MAX_BASES], p: Base) -> Base
     requires { ⌜ (p < maxBases) × Down maxBases (now l) ⌝ }
-    ensures { λ r. ⌜ (r < maxBases) × (getD (now (l .entry)) r 0 ≡ r) × ((f : ℕ → ℕ) → Forest maxBases (now (l .entry)) f → f r ≡ f p) ⌝ }
+    ensures { λ r. ⌜ (r ≤ p) × (getD (now (l .entry)) r 0 ≡ r) × ((f : ℕ → ℕ) → Forest maxBases (now (l .entry)) f → f r ≡ f p) ⌝ }
 {
     let mut x = p;
     let mut up = l[x as usize];
@@ -71,19 +71,30 @@ fn root(l: &[Base; MAX_BASES], p: Base) -> Base
     x
 }
 
-// One more bond: the higher root goes under the lower. Where they are one nothing changes.
-// The parents are those that `relabel` began with and this function changed; its caller knows the ends' range.
-fn unite(l: &mut [Base; MAX_BASES], b: Bond)
+// One more bond: the higher root goes under the lower. Answers how many roots fewer there are: 1, or 0 where it is one root.
+// Where the ends have one parent nothing is to be done: so it is with most of many bonds.
+// The parents are those that `unite_all` began with and this function changed; its caller knows the ends' range.
+fn unite(l: &mut [Base; MAX_BASES], b: Bond) -> usize
     requires { ⌜ (length (now l) ≡ maxBases) × Within maxBases b × Down maxBases (now l) ⌝ }
-    ensures { λ _. ⌜ (length (now (l .exit)) ≡ maxBases) × Down maxBases (now (l .exit)) × ((bs : List Bond) → Spans maxBases (now (l .entry)) bs → Spans maxBases (now (l .exit)) (put sameBond lessBond b bs)) ⌝ }
+    ensures { λ r. ⌜ ((n : ℕ) → n ≤ maxBases → Within n b → rootsBelow n (now (l .exit)) + r ≡ rootsBelow n (now (l .entry))) ⌝ }
+    ensures { λ _. ⌜ ((bs : List Bond) → Spans maxBases (now (l .entry)) bs → Spans maxBases (now (l .exit)) (put sameBond lessBond b bs)) ⌝ }
 {
+    let p = l[b.lo as usize];
+    let q = l[b.hi as usize];
+    if p == q {
+        return 0;
+    }
     let x = root(l, b.lo);
     let y = root(l, b.hi);
     if x < y {
         l[y as usize] = x;
-    } else {
-        l[x as usize] = y;
+        return 1;
     }
+    if y < x {
+        l[x as usize] = y;
+        return 1;
+    }
+    0
 }
 
 // Each base gets its root for a label: its parent's entry is its root already. `relabel` has united the bonds before.
@@ -111,22 +122,61 @@ fn own_in(l: &mut [Base; MAX_BASES])
     }
 }
 
+// The bonds united, in their order, until one root is left of the first n bases: further bonds then change nothing.
+// The bonds are of these bases: n is `bases_in`'s.
+fn unite_all<'a>(l: &mut [Base; MAX_BASES], lo: &'a [Base], hi: &'a [Base], count: usize, n: usize)
+    requires { ⌜ (length (now l) ≡ maxBases) × (count ≤ length (now lo)) × (count ≤ length (now hi)) ⌝ }
+    requires { ⌜ (n ≤ maxBases) × ((i : ℕ) → i < count → Within n (ends (now lo) (now hi) i)) ⌝ }
+    ensures { λ _. ⌜ Spans maxBases (now (l .exit)) (bondsIn (now (lo .entry)) (now (hi .entry)) count) ⌝ }
+{
+    own_in(l);
+    let mut roots = n;
+    let mut left = count;
+    let mut i = 0;
+    while 0 < left {
+        let b = Bond {
+            lo: lo[i],
+            hi: hi[i],
+        };
+        roots = roots - unite(l, b);
+        i += 1;
+        left -= 1;
+        if roots < 2 {
+            return;
+        }
+    }
+}
+
+// The higher of two bases.
+fn higher(a: Base, b: Base) -> Base
+    ensures { λ r. ⌜ (a ≤ r) × (b ≤ r) × ((n : ℕ) → a < n → b < n → r < n) ⌝ }
+{
+    if a < b { b } else { a }
+}
+
+// A number of bases that the first `count` bonds are of: one more than the highest. What it asks is what `label_in` asks.
+fn bases_in<'a>(lo: &'a [Base], hi: &'a [Base], count: usize) -> usize
+    requires { ⌜ (count ≤ length (now lo)) × (count ≤ length (now hi)) ⌝ }
+    requires { ⌜ ((i : ℕ) → i < count → (getD (now lo) i 0 < maxBases) × (getD (now hi) i 0 < maxBases)) ⌝ }
+    ensures { λ r. ⌜ (r ≤ maxBases) × ((i : ℕ) → i < count → Within r (ends (now (lo .entry)) (now (hi .entry)) i)) ⌝ }
+{
+    let mut top: Base = 0;
+    let mut i = 0;
+    while i < count {
+        top = higher(top, higher(lo[i], hi[i]));
+        i += 1;
+    }
+    top as usize + 1
+}
+
 // The labels of the first `count` bonds, made anew over parents. What it asks is what `label_in` asks.
 fn relabel<'a>(l: &mut [Base; MAX_BASES], lo: &'a [Base], hi: &'a [Base], count: usize)
     requires { ⌜ (length (now l) ≡ maxBases) × (count ≤ length (now lo)) × (count ≤ length (now hi)) ⌝ }
     requires { ⌜ ((i : ℕ) → i < count → (getD (now lo) i 0 < maxBases) × (getD (now hi) i 0 < maxBases)) ⌝ }
     ensures { λ _. ⌜ Parted maxBases (now (l .exit)) (bondsIn (now (lo .entry)) (now (hi .entry)) count) ⌝ }
 {
-    own_in(l);
-    let mut left = count;
-    while 0 < left {
-        left -= 1;
-        let b = Bond {
-            lo: lo[left],
-            hi: hi[left],
-        };
-        unite(l, b);
-    }
+    let n = bases_in(lo, hi, count);
+    unite_all(l, lo, hi, count, n);
     flatten(l);
 }
 

@@ -1,7 +1,7 @@
 -- `labels::root` meets its contract.
 -- Assumes nothing.
 use mathlib.Core.Path.{_≡_, refl, ap, _∙_}
-use Prim.Native.Nat.{ℕ, _<_}
+use Prim.Native.Nat.{ℕ, _<_, _≤_}
 use native.Mathlib.Omega.{arith}
 use lib.ListN.{getD}
 use borrow.Author.Needs.{needs}
@@ -11,7 +11,7 @@ use Rattle.labels.proofs.root.Statement.{statement}
 use Rattle.labels.proofs.root.Tie as tie
 
 abbrev Inv-loop : tie.InvT-loop
-Inv-loop l p x₀ up₀ x up = (x < maxBases) × (up ≡ getD l x 0) × ((f : ℕ → ℕ) → Forest maxBases l f → f x ≡ f p)
+Inv-loop l p x₀ up₀ x up = (x ≤ p) × (p < maxBases) × (up ≡ getD l x 0) × ((f : ℕ → ℕ) → Forest maxBases l f → f x ≡ f p)
 
 abbrev μ-loop : tie.MeasureT-loop
 μ-loop l p x₀ up₀ x up = x
@@ -23,7 +23,7 @@ element-copy-out-up : tie.Need-element-copy-out-up Inv-loop μ-loop
 element-copy-out-up c = search needs
 
 loop-holds : tie.Need-loop-holds Inv-loop μ-loop
-loop-holds c = (search needs, refl, λ f F. refl)
+loop-holds c = (search needs, search needs, refl, λ f F. refl)
 
 cast-up-2 : tie.Need-cast-up-2 Inv-loop μ-loop
 cast-up-2 c = search needs
@@ -37,15 +37,15 @@ loop-less c = search needs
 loop-again : tie.Need-loop-again Inv-loop μ-loop
 loop-again c =
     let at : tie.At-loop Inv-loop μ-loop = c .before .before in
-    (omega arith, refl, λ f F. ap f (at .loop .inv .1) ∙ F .up (at .loop .x) (at .loop .inv .0) ∙ at .loop .inv .2 f F)
+    (omega arith, omega arith, refl, λ f F. ap f (at .loop .inv .2) ∙ F .up (at .loop .x) (omega arith) ∙ at .loop .inv .3 f F)
 
 returns : tie.Need-returns Inv-loop μ-loop
 returns c =
     let at : tie.At-loop Inv-loop μ-loop = c .before in
     let s : tie.Start Inv-loop μ-loop = at .before .before in
-    let d = s .pre .1 (at .loop .x) (at .loop .inv .0) in
-    let u = at .loop .inv .1 in
-    (at .loop .inv .0, omega arith, at .loop .inv .2)
+    let d = s .pre .1 (at .loop .x) (omega arith) in
+    let u = at .loop .inv .2 in
+    (at .loop .inv .0, omega arith, at .loop .inv .3)
 
 pub root-spec : {M : Type 1} → statement M
 root-spec =
