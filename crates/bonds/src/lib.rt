@@ -26,7 +26,9 @@ fn is_less(p: Base, q: Base, b: Bond) -> bool
 // How many of the first `count` bonds are less than b: where b stands, or is to stand.
 // The callers' arrays hold a marking in its form: there is room for `count` bonds, and these are in strict order.
 pub fn rank<'a>(lo: &'a [Base], hi: &'a [Base], count: usize, b: Bond) -> usize
-    requires { ⌜ (count ≤ length (now lo)) × (count ≤ length (now hi)) × Ascending sameBond lessBond (bondsIn (now lo) (now hi) count) ⌝ }
+    requires { ⌜
+        (count ≤ length (now lo)) × (count ≤ length (now hi))
+        × Ascending sameBond lessBond (bondsIn (now lo) (now hi) count) ⌝ }
     ensures { λ r. ⌜ r ≡ rankIn (now (lo .entry)) (now (hi .entry)) count b ⌝ }
 {
     let mut from = 0;
@@ -46,7 +48,9 @@ pub fn rank<'a>(lo: &'a [Base], hi: &'a [Base], count: usize, b: Bond) -> usize
 
 // Whether b is among the first `count` bonds, by one comparison at its rank k, which the caller has.
 pub fn stands_at<'a>(lo: &'a [Base], hi: &'a [Base], count: usize, b: Bond, k: usize) -> bool
-    requires { ⌜ (count ≤ length (now lo)) × (count ≤ length (now hi)) × Ascending sameBond lessBond (bondsIn (now lo) (now hi) count) ⌝ }
+    requires { ⌜
+        (count ≤ length (now lo)) × (count ≤ length (now hi))
+        × Ascending sameBond lessBond (bondsIn (now lo) (now hi) count) ⌝ }
     requires { ⌜ k ≡ rankIn (now lo) (now hi) count b ⌝ }
     ensures { λ r. ⌜ r ≡ hasBond b (bondsIn (now (lo .entry)) (now (hi .entry)) count) ⌝ }
 {
@@ -59,7 +63,9 @@ pub fn stands_at<'a>(lo: &'a [Base], hi: &'a [Base], count: usize, b: Bond, k: u
 
 // Whether b is among the first `count` bonds, which the callers hold in strict order.
 pub fn has_bond<'a>(lo: &'a [Base], hi: &'a [Base], count: usize, b: Bond) -> bool
-    requires { ⌜ (count ≤ length (now lo)) × (count ≤ length (now hi)) × Ascending sameBond lessBond (bondsIn (now lo) (now hi) count) ⌝ }
+    requires { ⌜
+        (count ≤ length (now lo)) × (count ≤ length (now hi))
+        × Ascending sameBond lessBond (bondsIn (now lo) (now hi) count) ⌝ }
     ensures { λ r. ⌜ r ≡ hasBond b (bondsIn (now (lo .entry)) (now (hi .entry)) count) ⌝ }
 {
     let k = rank(lo, hi, count, b);

@@ -72,7 +72,8 @@ module _ (N : ℕ) where
         size = ap length e ∙ length-table N (λ p. renamed (f (b .hi)) (f (b .lo)) (f p));
         low = λ p k. subst (λ (x : ℕ). x < N) (sym (at p k)) (pick-case (λ (x : ℕ). x < N) (eqb (f p) (f (b .hi))) (f (b .lo)) (f p) (λ _. P .low (b .lo) (w .0)) (λ _. P .low p k));
         says = λ p q j k. (λ i. eqb (at p j i) (at q k i))
-            ∙ joined-alike f (label bs) b p q (P .says p q j k) (P .says p (b .hi) j (w .1)) (P .says q (b .hi) k (w .1)) (P .says p (b .lo) j (w .0)) (P .says (b .lo) q (w .0) k) (P .says (b .lo) (b .lo) (w .0) (w .0))
+            ∙ joined-alike f (label bs) b p q (P .says p q j k) (P .says p (b .hi) j (w .1)) (P .says q (b .hi) k (w .1))
+            (P .says p (b .lo) j (w .0)) (P .says (b .lo) q (w .0) k) (P .says (b .lo) (b .lo) (w .0) (w .0))
             ∙ connected-put bs b p q;
       }
 

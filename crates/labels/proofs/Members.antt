@@ -58,7 +58,7 @@ module _ (N : ℕ) (l m : List ℕ) (size : length m ≡ N) (low : (p : ℕ) →
   elsewhere p h d e = ap (setOf N) (getD-set-other m x (labelIn l p) w 0 (eqb-false (labelIn l p) x d)) ∙ holds p h
       ∙ table-cong N (λ q. eqb (labelIn l p) (labelIn l q)) (λ q. eqb (labelIn l p) (renamed y x (labelIn l q))) (λ q k. other-of x y (labelIn l p) (labelIn l q) d e)
 
-  pub sets-join : (r : List ℕ) → r ≡ table N (λ p. renamed y x (labelIn l p))
+  sets-join : (r : List ℕ) → r ≡ table N (λ p. renamed y x (labelIn l p))
       → (p : ℕ) → p < N → setOf N (getD (set m x w) (labelIn r p) 0) ≡ table N (λ q. eqb (labelIn r p) (labelIn r q))
   sets-join r e p h =
       let at : (q : ℕ) → q < N → labelIn r q ≡ renamed y x (labelIn l q) = λ q k. ap (λ (z : List ℕ). getD z q 0) e ∙ getD-table N (λ p. renamed y x (labelIn l p)) q 0 k in

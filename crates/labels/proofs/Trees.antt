@@ -179,7 +179,8 @@ module _ (N : ℕ) where
         root = f;
         forest = S .forest;
         says = λ p q j k. (λ i. eqb (renamed-same (f (b .lo)) (f (b .hi)) (f p) e i) (renamed-same (f (b .lo)) (f (b .hi)) (f q) e i))
-            ∙ joined-alike f (label bs) b p q (S .says p q j k) (S .says p (b .hi) j (w .1)) (S .says q (b .hi) k (w .1)) (S .says p (b .lo) j (w .0)) (S .says (b .lo) q (w .0) k) (S .says (b .lo) (b .lo) (w .0) (w .0))
+            ∙ joined-alike f (label bs) b p q (S .says p q j k) (S .says p (b .hi) j (w .1)) (S .says q (b .hi) k (w .1))
+            (S .says p (b .lo) j (w .0)) (S .says (b .lo) q (w .0) k) (S .says (b .lo) (b .lo) (w .0) (w .0))
             ∙ connected-put bs b p q;
       }
 

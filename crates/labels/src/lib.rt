@@ -44,7 +44,9 @@ fn rename_in(l: &mut [Base; MAX_BASES], from: Base, to: Base)
 pub fn join(l: &mut [Base; MAX_BASES], members: &mut [u64; MAX_BASES], b: Bond)
     requires { ⌜ Fits (now l) (now members) × Within maxBases b ⌝ }
     ensures { λ _. ⌜ Fits (now (l .exit)) (now (members .exit)) ⌝ }
-    ensures { λ _. ⌜ ((bs : List Bond) → Labelled (now (l .entry)) (now (members .entry)) bs → Labelled (now (l .exit)) (now (members .exit)) (put sameBond lessBond b bs)) ⌝ }
+    ensures { λ _. ⌜
+        ((bs : List Bond) → Labelled (now (l .entry)) (now (members .entry)) bs
+        → Labelled (now (l .exit)) (now (members .exit)) (put sameBond lessBond b bs)) ⌝ }
 {
     let to = l[b.lo as usize];
     let from = l[b.hi as usize];
@@ -60,7 +62,9 @@ pub fn join(l: &mut [Base; MAX_BASES], members: &mut [u64; MAX_BASES], b: Bond)
 // The root over p. Callers have united bonds only, so no parent is higher; the ends of bonds are below the limit.
 fn root(l: &[Base; MAX_BASES], p: Base) -> Base
     requires { ⌜ (p < maxBases) × Down maxBases (now l) ⌝ }
-    ensures { λ r. ⌜ (r ≤ p) × (getD (now (l .entry)) r 0 ≡ r) × ((f : ℕ → ℕ) → Forest maxBases (now (l .entry)) f → f r ≡ f p) ⌝ }
+    ensures { λ r. ⌜
+        (r ≤ p) × (getD (now (l .entry)) r 0 ≡ r)
+        × ((f : ℕ → ℕ) → Forest maxBases (now (l .entry)) f → f r ≡ f p) ⌝ }
 {
     let mut x = p;
     let mut up = l[x as usize];
@@ -71,13 +75,17 @@ fn root(l: &[Base; MAX_BASES], p: Base) -> Base
     x
 }
 
-// One more bond: the higher root goes under the lower. Answers how many roots fewer there are: 1, or 0 where it is one root.
-// Where the ends have one parent nothing is to be done: so it is with most of many bonds.
+// One more bond: the higher root goes under the lower. Answers how many roots fewer there are: 1, or 0 where the ends
+// have one root. Most bonds of many have ends of one parent, which is seen at once.
 // The parents are those that `unite_all` began with and this function changed; its caller knows the ends' range.
 fn unite(l: &mut [Base; MAX_BASES], b: Bond) -> usize
     requires { ⌜ (length (now l) ≡ maxBases) × Within maxBases b × Down maxBases (now l) ⌝ }
-    ensures { λ r. ⌜ ((n : ℕ) → n ≤ maxBases → Within n b → rootsBelow n (now (l .exit)) + r ≡ rootsBelow n (now (l .entry))) ⌝ }
-    ensures { λ _. ⌜ ((bs : List Bond) → Spans maxBases (now (l .entry)) bs → Spans maxBases (now (l .exit)) (put sameBond lessBond b bs)) ⌝ }
+    ensures { λ r. ⌜
+        ((n : ℕ) → n ≤ maxBases → Within n b
+        → rootsBelow n (now (l .exit)) + r ≡ rootsBelow n (now (l .entry))) ⌝ }
+    ensures { λ _. ⌜
+        ((bs : List Bond) → Spans maxBases (now (l .entry)) bs
+        → Spans maxBases (now (l .exit)) (put sameBond lessBond b bs)) ⌝ }
 {
     let p = l[b.lo as usize];
     let q = l[b.hi as usize];
@@ -100,7 +108,8 @@ fn unite(l: &mut [Base; MAX_BASES], b: Bond) -> usize
 // Each base gets its root for a label: its parent's entry is its root already. `relabel` has united the bonds before.
 fn flatten(l: &mut [Base; MAX_BASES])
     requires { ⌜ (length (now l) ≡ maxBases) × Down maxBases (now l) ⌝ }
-    ensures { λ _. ⌜ ((bs : List Bond) → Spans maxBases (now (l .entry)) bs → Parted maxBases (now (l .exit)) bs) ⌝ }
+    ensures { λ _. ⌜
+        ((bs : List Bond) → Spans maxBases (now (l .entry)) bs → Parted maxBases (now (l .exit)) bs) ⌝ }
 {
     let mut p = 0;
     while p < MAX_BASES {
@@ -158,7 +167,8 @@ fn higher(a: Base, b: Base) -> Base
 fn bases_in<'a>(lo: &'a [Base], hi: &'a [Base], count: usize) -> usize
     requires { ⌜ (count ≤ length (now lo)) × (count ≤ length (now hi)) ⌝ }
     requires { ⌜ ((i : ℕ) → i < count → (getD (now lo) i 0 < maxBases) × (getD (now hi) i 0 < maxBases)) ⌝ }
-    ensures { λ r. ⌜ (r ≤ maxBases) × ((i : ℕ) → i < count → Within r (ends (now (lo .entry)) (now (hi .entry)) i)) ⌝ }
+    ensures { λ r. ⌜
+        (r ≤ maxBases) × ((i : ℕ) → i < count → Within r (ends (now (lo .entry)) (now (hi .entry)) i)) ⌝ }
 {
     let mut top: Base = 0;
     let mut i = 0;
@@ -183,7 +193,10 @@ fn relabel<'a>(l: &mut [Base; MAX_BASES], lo: &'a [Base], hi: &'a [Base], count:
 // The set of each label: at first none has a base, then each base goes into its label's. The labels are `relabel`'s.
 fn set_members(l: &[Base; MAX_BASES], members: &mut [u64; MAX_BASES])
     requires { ⌜ ((p : ℕ) → p < maxBases → labelIn (now l) p < maxBases) ⌝ }
-    ensures { λ _. ⌜ (length (now (members .exit)) ≡ maxBases) × ((x : ℕ) → x < maxBases → setOf maxBases (getD (now (members .exit)) x 0) ≡ table maxBases (λ q. eqb x (labelIn (now (l .entry)) q))) ⌝ }
+    ensures { λ _. ⌜
+        (length (now (members .exit)) ≡ maxBases)
+        × ((x : ℕ) → x < maxBases → setOf maxBases (getD (now (members .exit)) x 0)
+        ≡ table maxBases (λ q. eqb x (labelIn (now (l .entry)) q))) ⌝ }
 {
     *members = [0; MAX_BASES];
     let mut p = 0;
@@ -205,7 +218,8 @@ pub fn label_in<'a>(
 )
     requires { ⌜ (length (now l) ≡ maxBases) × (count ≤ length (now lo)) × (count ≤ length (now hi)) ⌝ }
     requires { ⌜ ((i : ℕ) → i < count → (getD (now lo) i 0 < maxBases) × (getD (now hi) i 0 < maxBases)) ⌝ }
-    ensures { λ _. ⌜ Labelled (now (l .exit)) (now (members .exit)) (bondsIn (now (lo .entry)) (now (hi .entry)) count) ⌝ }
+    ensures { λ _. ⌜
+        Labelled (now (l .exit)) (now (members .exit)) (bondsIn (now (lo .entry)) (now (hi .entry)) count) ⌝ }
 {
     relabel(l, lo, hi, count);
     set_members(l, members);
