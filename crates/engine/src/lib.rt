@@ -122,8 +122,8 @@ fn join_out_bonds(step: &[u8], l: &mut [Base; MAX_BASES], members: &mut [u64; MA
     }
 }
 
-// The labels of the `held` bonds that are left of `count`: made anew where some went. `undo_in` has the bonds of a good marking,
-// and labels by those that were there: where none went, these are the same.
+// The labels of the `held` bonds that are left of `count`: made anew where some went. `undo_in` has the bonds of a good
+// marking, and labels by those that were there: where none went, these are the same.
 fn relabel<'a>(
     l: &mut [Base; MAX_BASES],
     members: &mut [u64; MAX_BASES],
