@@ -14,7 +14,6 @@ use Rattle.net.specs.Tests.{any, table}
 use Rattle.net.specs.Net.{Arcs, Marking}
 use Rattle.net.specs.Connection.{connected}
 use Rattle.net.specs.Firing.{tornApart}
-use Rattle.net.specs.declared.Bond.{Bond}
 use Rattle.net.specs.declared.Entry.{Entry}
 use Rattle.net.proofs.Tests.{same-test, and-l, and-r, and-i, any-e, any-i, any-cong}
 use Rattle.net.proofs.Tables.{getD-table}
@@ -87,7 +86,8 @@ module _ (N : ℕ) (l : List ℕ) (t : Arcs) (s : Marking) (P : Parted N l (s .b
   torn-parted : tornBy (labelIn l) (t .entries) ≡ tornApart t s
   torn-parted = any-cong (λ (e : Entry). any (λ (d : Entry). eqb (labelIn l (e .base)) (labelIn l (d .base)) && not (eqb (e .to) (d .to))) (t .entries))
       (λ (e : Entry). any (λ (d : Entry). connected (s .bonds) (e .base) (d .base) && not (eqb (e .to) (d .to))) (t .entries)) (t .entries)
-      (λ e m. any-cong (λ (d : Entry). eqb (labelIn l (e .base)) (labelIn l (d .base)) && not (eqb (e .to) (d .to))) (λ (d : Entry). connected (s .bonds) (e .base) (d .base) && not (eqb (e .to) (d .to))) (t .entries)
+      (λ e m. any-cong (λ (d : Entry). eqb (labelIn l (e .base)) (labelIn l (d .base)) && not (eqb (e .to) (d .to)))
+      (λ (d : Entry). connected (s .bonds) (e .base) (d .base) && not (eqb (e .to) (d .to))) (t .entries)
       (λ d k. ap (λ (x : Bool). x && not (eqb (e .to) (d .to))) (P .says (e .base) (d .base) (h e m) (h d k))))
 
   -- once all entries were sent in a copy of the places

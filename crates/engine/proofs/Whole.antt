@@ -38,7 +38,7 @@ module _ (n : ℕ) (t : Arcs) (m : Marking) (R : Ready n t m) where
     outs = λ b h. let (u, v) = R .outs b h in let f = R .few in (u, omega arith);
   }
 
-  pub ready-with : (bs : List Bond) → Ascending sameBond lessBond bs → ((b : Bond) → hasBond b bs ≡ true → (b .lo < b .hi) × (b .hi < n)) → Ready n t (withBonds m bs)
+  ready-with : (bs : List Bond) → Ascending sameBond lessBond bs → ((b : Bond) → hasBond b bs ≡ true → (b .lo < b .hi) × (b .hi < n)) → Ready n t (withBonds m bs)
   ready-with bs o r =
       let e : bs ≡ bondsOf (withBonds m bs) = sym (bonds-with m bs) in
       record {

@@ -114,16 +114,16 @@ fn join_out_bonds(step: &[u8], l: &mut [Base; MAX_BASES], members: &mut [u64; MA
         ((bs : List Bond) → Labelled (now (l .entry)) (now (members .entry)) bs
         → Labelled (now (l .exit)) (now (members .exit)) (puts sameBond lessBond (arcsIn (now (step .entry)) .outBonds) bs)) ⌝ }
 {
-    let mut left = out_count(step);
-    while 0 < left {
-        left -= 1;
-        let b = out_bond(step, left);
+    let mut rest = out_count(step);
+    while 0 < rest {
+        rest -= 1;
+        let b = out_bond(step, rest);
         join(l, members, b);
     }
 }
 
-// The labels of the `held` bonds that are left of `count`: made anew where some went. `undo_in` has the bonds of a good marking,
-// and labels by those that were there: where none went, these are the same.
+// The labels of the `held` bonds that are left of `count`: made anew where some went. `undo_in` has the bonds of a good
+// marking, and labels by those that were there: where none went, these are the same.
 fn relabel<'a>(
     l: &mut [Base; MAX_BASES],
     members: &mut [u64; MAX_BASES],

@@ -37,8 +37,9 @@ pub fn moved_word(step: &[u8], l: &[Base; MAX_BASES], members: &[u64; MAX_BASES]
     let mut i: u8 = 0;
     while i < n {
         let e = entry(step, i);
-        let x = l[e.base as usize];
-        w = union(w, members[x as usize]);
+        let base = e.base as usize;
+        let x = l[base] as usize;
+        w = union(w, members[x]);
         i += 1;
     }
     w

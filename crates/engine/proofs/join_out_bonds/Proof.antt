@@ -16,11 +16,11 @@ use Rattle.engine.proofs.join_out_bonds.Tie as tie
 use Rattle.engine.proofs.join_out_bonds.Statement.{statement}
 
 abbrev Inv-loop : tie.InvT-loop
-Inv-loop step l₀ members₀ left₀ l members left =
-    (left ≤ outCount step) × Fits l members × Joins l₀ members₀ l members (drop left (table (outCount step) (nthOutBond step)))
+Inv-loop step l₀ members₀ rest₀ l members rest =
+    (rest ≤ outCount step) × Fits l members × Joins l₀ members₀ l members (drop rest (table (outCount step) (nthOutBond step)))
 
 abbrev μ-loop : tie.MeasureT-loop
-μ-loop step l₀ members₀ left₀ l members left = left
+μ-loop step l₀ members₀ rest₀ l members rest = rest
 
 out-count-requires : tie.Need-out-count-requires Inv-loop μ-loop
 out-count-requires c κs = search needs
@@ -34,8 +34,8 @@ loop-holds c =
       joins-none (outCount (s .args .step .now)) (nthOutBond (s .args .step .now)) (c .out-count .result) e (s .args .l .now) (s .args .members .now),
     )
 
-sub-left : tie.Need-sub-left Inv-loop μ-loop
-sub-left c = search needs
+sub-rest : tie.Need-sub-rest Inv-loop μ-loop
+sub-rest c = search needs
 
 out-bond-requires : tie.Need-out-bond-requires Inv-loop μ-loop
 out-bond-requires c κs = search needs
@@ -45,7 +45,7 @@ join-requires c κs =
     let b : tie.After-out-bond Inv-loop μ-loop = c .before .before in
     let at : tie.At-loop Inv-loop μ-loop = b .before .before in
     let s : tie.Start Inv-loop μ-loop = at .before .before .before in
-    (at .loop .inv .1, subst (Within maxBases) (sym (b .out-bond .ensures)) (s .pre .1 (at .loop .left - 1) (omega arith)))
+    (at .loop .inv .1, subst (Within maxBases) (sym (b .out-bond .ensures)) (s .pre .1 (at .loop .rest - 1) (omega arith)))
 
 loop-less : tie.Need-loop-less Inv-loop μ-loop
 loop-less c = search needs
@@ -57,7 +57,7 @@ loop-again c =
     let s : tie.Start Inv-loop μ-loop = at .before .before .before in (
       omega arith,
       c .join .ensures .0,
-      joins-turn (outCount (s .args .step .now)) (nthOutBond (s .args .step .now)) (at .loop .left) (b .out-bond .result) (s .args .l .now)
+      joins-turn (outCount (s .args .step .now)) (nthOutBond (s .args .step .now)) (at .loop .rest) (b .out-bond .result) (s .args .l .now)
           (s .args .members .now) (at .loop .l) (at .loop .members) _ _ (omega arith) (omega arith) (b .out-bond .ensures) (at .loop .inv .2)
           (c .join .ensures .1),
     )
@@ -66,7 +66,7 @@ returns : tie.Need-returns Inv-loop μ-loop
 returns c =
     let at : tie.At-loop Inv-loop μ-loop = c .before in
     let s : tie.Start Inv-loop μ-loop = at .before .before .before in
-    let e : at .loop .left ≡ 0 = omega arith in
+    let e : at .loop .rest ≡ 0 = omega arith in
     λ bs P. subst (λ (k : ℕ). Labelled (at .loop .l) (at .loop .members) (puts sameBond lessBond (drop k (arcsIn (s .args .step .now) .outBonds)) bs)) e
     (at .loop .inv .2 bs P)
 
@@ -78,7 +78,7 @@ join-out-bonds-spec =
     μ-loop
     out-count-requires
     loop-holds
-    sub-left
+    sub-rest
     out-bond-requires
     join-requires
     loop-less

@@ -1,6 +1,6 @@
 -- `engine::undo_in` meets its contract.
 -- Assumes nothing.
-use mathlib.Core.Path.{sym, _∙_, ap, subst}
+use mathlib.Core.Path.{_∙_, ap, subst}
 use mathlib.Core.Bool.{not}
 use native.Mathlib.Omega.{arith}
 use Rattle.net.specs.Limits.{maxBases}

@@ -40,20 +40,20 @@ loop-holds c = (c .entry-count .ensures, search needs, no-bases maxBases)
 entry-requires : tie.Need-entry-requires Inv-loop μ-loop
 entry-requires c κs = search needs
 
-cast-x : tie.Need-cast-x Inv-loop μ-loop
-cast-x c = search needs
+cast-base : tie.Need-cast-base Inv-loop μ-loop
+cast-base c = search needs
 
 element-copy-out-x : tie.Need-element-copy-out-x Inv-loop μ-loop
 element-copy-out-x c = let h = near (c .before) in omega arith
 
-cast-union : tie.Need-cast-union Inv-loop μ-loop
-cast-union c = let h = low (c .before .before) in search needs
+cast-x : tie.Need-cast-x Inv-loop μ-loop
+cast-x c = let h = low (c .before .before) in search needs
 
 mul-union : tie.Need-mul-union Inv-loop μ-loop
-mul-union c = let h = low (c .before .before) in search needs
+mul-union c = let h = low (c .before .before) in let k = near (c .before .before) in search needs
 
 element-copy-out-union : tie.Need-element-copy-out-union Inv-loop μ-loop
-element-copy-out-union c = let h = low (c .before .before) in omega arith
+element-copy-out-union c = let h = low (c .before .before) in let k = near (c .before .before) in omega arith
 
 union-requires : tie.Need-union-requires Inv-loop μ-loop
 union-requires c κs = search needs
@@ -95,9 +95,9 @@ moved-word-spec =
     entry-count-requires
     loop-holds
     entry-requires
-    cast-x
+    cast-base
     element-copy-out-x
-    cast-union
+    cast-x
     mul-union
     element-copy-out-union
     union-requires

@@ -1,7 +1,6 @@
 -- `groups::send_moved` meets its contract.
 -- Assumes nothing.
 use mathlib.Core.Path.{sym, _∙_}
-use Prim.Native.Nat.{ℕ}
 use lib.ListN.{getD}
 use borrow.Author.Needs.{needs}
 use Rattle.net.specs.Limits.{maxBases}
