@@ -374,8 +374,9 @@ impl Record {
             &mut l,
             &mut members,
         );
+        let answer = done.answer;
         Outcome {
-            answer: done.answer,
+            answer: answer,
             key: done.key,
             session: Record {
                 marking: Marking {
