@@ -75,7 +75,7 @@ fn remove_transition(a: &mut [u8; MAX_LIVE], n: usize, k: usize)
         a[j] = a[j + 1];
         j += 1;
     }
-    a[last] = 0;
+    a[last] = 0u8;
 }
 
 fn remove_key(a: &mut [u16; MAX_LIVE], n: usize, k: usize)
@@ -88,7 +88,7 @@ fn remove_key(a: &mut [u16; MAX_LIVE], n: usize, k: usize)
         a[j] = a[j + 1];
         j += 1;
     }
-    a[last] = 0;
+    a[last] = 0u16;
 }
 
 fn remove_moved(a: &mut [u64; MAX_LIVE], n: usize, k: usize)
@@ -101,7 +101,7 @@ fn remove_moved(a: &mut [u64; MAX_LIVE], n: usize, k: usize)
         a[j] = a[j + 1];
         j += 1;
     }
-    a[last] = 0;
+    a[last] = 0u64;
 }
 
 // The live firing at i is gone: the later ones close up. The callers have found i among the live ones of a sound record,
