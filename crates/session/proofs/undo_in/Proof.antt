@@ -1,68 +1,98 @@
-use native.Mathlib.Omega.{arith}
-use mathlib.Core.Path.{_≡_, refl, ap, sym, _∙_}
-use Prim.Native.Nat.{ℕ, suc, _+_, _-_, _*_, _<_, _≤_}
-use lib.ListN.{length, getD, take, drop, set}
-use mathlib.Core.List.{List, [], _∷_, _++_}
+-- `session::undo_in` meets its contract.
+-- Assumes nothing but the laws of proofs/.
 use borrow.Author.Needs.{needs}
+use native.Mathlib.Omega.{arith}
+use mathlib.Core.Path.{_≡_, sym, ap, _∙_}
+use Rattle.net.specs.Journal.{transition}
+use Rattle.session.specs.Lent.{recordAt, given}
+use Rattle.session.specs.declared.Record.{Record}
+use Rattle.session.specs.declared.Done.{Done}
+use Rattle.session.specs.declared.Outcome.{Outcome}
+use Rattle.session.proofs.Sounds.{placed, live-few, keys-rise, firings-sized}
+use Rattle.session.proofs.Undoes.{dead, built, listed, done}
 use Rattle.session.proofs.undo_in.Statement.{statement}
 use Rattle.session.proofs.undo_in.Tie as tie
-use Rattle.session.proofs.undo_in.Reads as reads
-use Rattle.session.proofs.undo_in.Lts as lts
-use Rattle.firings.proofs.Firing.transition_of.Reads as transition-of-reads
-use Rattle.firings.proofs.built_on.Reads as built-on-reads
-use Rattle.firings.proofs.close_up.Reads as close-up-reads
-use Rattle.firings.proofs.firing_at.Reads as firing-at-reads
-use Rattle.firings.proofs.index_of.Reads as index-of-reads
-use Rattle.session.proofs.refused_in.Reads as refused-in-reads
-use Rattle.steps.proofs.undo_in.Reads as undo-in-reads
 
--- src/lib.rt:220:9
+-- the function's start, the record that was lent, and the outcome where nothing changed
+abbrev start : tie.After-index-of → tie.Start
+start c = c .before .before .before
+
+abbrev lent : tie.Start → Record
+lent s = recordAt (s .args .places .now) (s .args .count) (s .args .lo .now) (s .args .hi .now) (s .args .live) (s .args .transitions .now) (s .args .keys .now) (s .args .moved .now)
+
+abbrev unchanged : tie.Start → Done → Outcome
+unchanged s d = given d (s .args .places .now) (s .args .lo .now) (s .args .hi .now) (s .args .transitions .now) (s .args .keys .now) (s .args .moved .now)
+
 index-of-requires : tie.Need-index-of-requires
-index-of-requires c κs = search needs
+index-of-requires c κs = let s : tie.Start = c .before .before in (live-few (s .args .sheet .now) (lent s) (s .pre .0), keys-rise (s .args .sheet .now) (lent s) (s .pre .0))
 
--- src/lib.rt:222:9
 refused-in-requires : tie.Need-refused-in-requires
 refused-in-requires c κs = search needs
 
--- src/lib.rt:222:9
 returns : tie.Need-returns
-returns c = search needs
+returns c =
+    let i : tie.After-index-of = c .before .before in
+    let s : tie.Start = start i in
+    (ap (unchanged s) (c .refused-in .ensures) ∙ dead (s .args .sheet .now) (lent s) (s .args .key) (s .pre .0) _ (i .index-of .ensures) (c .before .if1 .taken), rw (c .refused-in .ensures) (s .pre .1))
 
--- src/lib.rt:224:8
 built-on-requires : tie.Need-built-on-requires
-built-on-requires c κs = search needs
+built-on-requires c κs =
+    let e : tie.Else1 = c .before in
+    let s : tie.Start = start (e .before) in
+    (e .if1 .left, live-few (s .args .sheet .now) (lent s) (s .pre .0))
 
--- src/lib.rt:225:9
 refused-in-requires-2 : tie.Need-refused-in-requires-2
 refused-in-requires-2 c κs = search needs
 
--- src/lib.rt:225:9
 returns-2 : tie.Need-returns-2
-returns-2 c = search needs
+returns-2 c =
+    let b : tie.After-built-on = c .before .before in
+    let e : tie.Else1 = b .before .before in
+    let s : tie.Start = start (e .before) in
+    (ap (unchanged s) (c .refused-in2 .ensures) ∙ built (s .args .sheet .now) (lent s) (s .args .key) (s .pre .0) _ (e .before .index-of .ensures) (e .if1 .left) (sym (b .built-on .ensures) ∙ c .before .if2 .taken), rw (c .refused-in2 .ensures) (s .pre .1))
 
--- src/lib.rt:227:9
 firing-at-requires : tie.Need-firing-at-requires
-firing-at-requires c κs = search needs
+firing-at-requires c κs =
+    let b : tie.After-built-on = c .before .before .before .before in
+    let e : tie.Else1 = b .before .before in
+    let s : tie.Start = start (e .before) in
+    let h = e .if1 .left in
+    let k = live-few (s .args .sheet .now) (lent s) (s .pre .0) in
+    omega arith
 
--- src/lib.rt:236:9
 transition-of-requires : tie.Need-transition-of-requires
 transition-of-requires c κs = search needs
 
--- src/lib.rt:228:9
 undo-in-requires : tie.Need-undo-in-requires
-undo-in-requires c κs = search needs
+undo-in-requires c κs =
+    let f : tie.After-firing-at = c .before .before .before .before .before .before in
+    let e : tie.Else1 = f .before .before .before .before .before .before .before in
+    let s : tie.Start = start (e .before) in
+    (placed (s .args .sheet .now) (lent s) (s .pre .0), s .pre .1, rw (c .transition-of .ensures, f .firing-at .ensures) (listed (s .args .sheet .now) (lent s) (s .args .key) (s .pre .0) _ (e .before .index-of .ensures) (e .if1 .left)))
 
--- src/lib.rt:239:5
 close-up-requires : tie.Need-close-up-requires
-close-up-requires c κs = search needs
+close-up-requires c κs =
+    let u : tie.After-undo-in = c .before .before .before in
+    let f : tie.After-firing-at = u .before .before .before .before .before .before .before in
+    let e : tie.Else1 = f .before .before .before .before .before .before .before in
+    let s : tie.Start = start (e .before) in
+    let z = firings-sized (s .args .sheet .now) (lent s) (s .pre .0) in
+    ((e .if1 .left, live-few (s .args .sheet .now) (lent s) (s .pre .0)), (z .transitions, z .keys, z .moved))
 
--- src/lib.rt:244:15
 sub-t34 : tie.Need-sub-t34
 sub-t34 c = search needs
 
--- src/lib.rt:197:1
 returns-3 : tie.Need-returns-3
-returns-3 c = search needs
+returns-3 c =
+    let u : tie.After-undo-in = c .before .before .before .before in
+    let t : tie.After-transition-of = u .before in
+    let f : tie.After-firing-at = t .before .before .before .before .before .before in
+    let x : tie.Else2 = f .before .before .before .before in
+    let b : tie.After-built-on = x .before in
+    let e : tie.Else1 = b .before .before in
+    let s : tie.Start = start (e .before) in
+    let back = rw (t .transition-of .ensures, f .firing-at .ensures) at (u .undo-in .ensures .0) in
+    (done (s .args .sheet .now) (lent s) (s .args .key) (s .pre .0) _ (e .before .index-of .ensures) (e .if1 .left) (sym (b .built-on .ensures) ∙ x .if2 .left) _ _ back (c .close-up .ensures), u .undo-in .ensures .1)
 
 pub undo-in-spec : {M : Type 1} → statement M
 undo-in-spec =
