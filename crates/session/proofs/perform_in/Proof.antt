@@ -96,9 +96,11 @@ returns-5 c =
     let r : tie.After-read = x .before .before .before in
     let d : tie.After-decode = r .before .before in
     let s : tie.Start = start (d .before) in
-    let last = k .last-key .ensures ∙ last-given (basesOf (s .args .sheet .now)) (lent s .firings) (held (s .args .sheet .now) (lent s) (s .pre .0) .up) in
-    (c .undo-in2 .ensures .0 ∙ ap (undoOutcome (s .args .sheet .now) (lent s)) last
-        ∙ commanded (s .args .sheet .now) (lent s) (s .args .bytes .now) (le-ltb _ _ (d .before .if1 .left)) _ _ _ (r .read .given .1) (d .decode .ensures) (x .enum-told2 .given .1), c .undo-in2 .ensures .1)
+    let last = k .last-key .ensures ∙ last-given (basesOf (s .args .sheet .now)) (lent s .firings) (held (s .args .sheet .now) (lent s) (s .pre .0) .up) in (
+      c .undo-in2 .ensures .0 ∙ ap (undoOutcome (s .args .sheet .now) (lent s)) last
+          ∙ commanded (s .args .sheet .now) (lent s) (s .args .bytes .now) (le-ltb _ _ (d .before .if1 .left)) _ _ _ (r .read .given .1) (d .decode .ensures) (x .enum-told2 .given .1),
+      c .undo-in2 .ensures .1,
+    )
 
 pub perform-in-spec : {M : Type 1} → statement M
 perform-in-spec =
