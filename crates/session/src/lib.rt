@@ -375,9 +375,10 @@ impl Record {
             &mut members,
         );
         let answer = done.answer;
+        let key = done.key;
         Outcome {
             answer: answer,
-            key: done.key,
+            key: key,
             session: Record {
                 marking: Marking {
                     places: places,

@@ -1,10 +1,36 @@
+-- `session::Record::perform` meets its contract.
+-- Assumes nothing but the laws of proofs/.
 use borrow.Author.Needs.{needs}
-use native.Mathlib.Omega.{arith}
-use mathlib.Core.Path.{_≡_, refl, ap, sym, _∙_}
-use Prim.Native.Nat.{ℕ, suc, _+_, _-_, _*_, _<_, _≤_}
-use lib.ListN.{length, getD, take, drop, set}
-use mathlib.Core.List.{List, [], _∷_, _++_}
+use Rattle.sound.proofs.Lines.{placed-fits, placed-ends}
+use Rattle.session.proofs.Sounds.{placed}
 use Rattle.session.proofs.Record.perform.Statement.{statement}
+use Rattle.session.proofs.Record.perform.Tie as tie
+
+slice-aggregate-label-in : tie.Need-slice-aggregate-label-in
+slice-aggregate-label-in c = search needs
+
+slice-aggregate-label-in-2 : tie.Need-slice-aggregate-label-in-2
+slice-aggregate-label-in-2 c = search needs
+
+label-in-requires : tie.Need-label-in-requires
+label-in-requires c κs =
+    let s : tie.Start = c .before .before .before .before .before .before .before .before .before .before .before .before .before .before in
+    let P = placed (s .args .sheet .now) (s .args .self) (s .pre) in
+    let (lo, hi) = placed-fits (s .args .sheet .now) (s .args .self .marking) P in
+    ((search needs, lo, hi), placed-ends (s .args .sheet .now) (s .args .self .marking) P)
+
+perform-in-requires : tie.Need-perform-in-requires
+perform-in-requires c κs = search needs
+
+returns : tie.Need-returns
+returns c = search needs
 
 pub perform-spec : {M : Type 1} → statement M
-perform-spec 𝓤 H 𝓜 𝓖 𝓡 = ?
+perform-spec =
+    tie.close
+    (tie.spec
+    slice-aggregate-label-in
+    slice-aggregate-label-in-2
+    label-in-requires
+    perform-in-requires
+    returns)
