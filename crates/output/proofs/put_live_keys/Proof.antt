@@ -5,7 +5,7 @@ use native.Mathlib.Omega.{arith}
 use mathlib.Core.Path.{sym}
 use lib.ListN.{take}
 use lib.Seq.{length-take-le}
-use Rattle.marking.proofs.InPlace.{table-take}
+use Rattle.bonds.proofs.InPlace.{table-take}
 use Rattle.output.proofs.Closing.{live-fits}
 use Rattle.output.proofs.put_live_keys.Statement.{statement}
 use Rattle.output.proofs.put_live_keys.Tie as tie
