@@ -1,22 +1,20 @@
 -- What was built on a line, by the arrays: the later ones have the higher keys, and sets as words meet where sets do.
 -- Assumes nothing.
 use mathlib.Core.Path.{_≡_, refl, sym, _∙_, ap}
-use mathlib.Core.Logic.{inl, inr}
-use mathlib.Core.Bool.{Bool, true, false, _&&_, _||_}
-use mathlib.Core.List.{List, [], _∷_, _++_, map, map-append}
+use mathlib.Core.Logic.{inr}
+use mathlib.Core.Bool.{Bool, false, _&&_, _||_}
+use mathlib.Core.List.{List, [], _∷_, _++_, map}
 use Prim.Native.Nat.{ℕ, zero, suc, _+_, _*_, _-_, _<_, _≤_}
 use native.Mathlib.Omega.{arith}
-use native.Mathlib.Nat.{suc-add}
 use lib.Dec.{ltb}
-use lib.ListN.{length, getD, replicate, length-append, length-replicate, length-map}
-use lib.Seq.{getD-append-add}
+use lib.ListN.{length, getD, replicate, length-append, length-replicate}
 use borrow.Author.Tests.{lt-ltb, le-ltb}
 use Rattle.causal.specs.Lists.{Mem}
 use Rattle.causal.proofs.Lists.{mem-mid}
 use Rattle.net.specs.Limits.{maxBases, maxLive}
 use Rattle.net.specs.Tests.{pick, any, table}
 use Rattle.net.specs.Journal.{LiveLine, noLine, common, builtOn}
-use Rattle.net.proofs.Tests.{any-append, any-cong}
+use Rattle.net.proofs.Tests.{any-cong}
 use Rattle.net.proofs.Keys.{Up}
 use Rattle.words.specs.Sets.{setOf, packed}
 use Rattle.words.proofs.Bits.{set-packed}

@@ -13,14 +13,14 @@ use borrow.Author.Tests.{ltb-true, ltb-false}
 use Rattle.causal.proofs.Tests.{test}
 use Rattle.net.specs.Limits.{maxLive}
 use Rattle.net.specs.Tests.{table}
-use Rattle.net.specs.Journal.{LiveLine, lineKeys}
+use Rattle.net.specs.Journal.{LiveLine}
 use Rattle.net.proofs.Tables.{table-cong}
 use Rattle.words.specs.Sets.{packed}
 use Rattle.marking.specs.Form.{padded}
 use Rattle.marking.specs.Shift.{gap}
 use Rattle.marking.proofs.Shifts.{gap-below, gap-from}
-use Rattle.marking.proofs.InPlace.{table-take}
-use Rattle.firings.specs.Lines.{lying, stepsOf, setsOf, firingsOf, closed, closedUp}
+use Rattle.bonds.proofs.InPlace.{table-take}
+use Rattle.firings.specs.Lines.{lying, firingsOf, closed, closedUp}
 
 -- ---- one more
 

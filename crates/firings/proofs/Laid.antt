@@ -22,7 +22,7 @@ use Rattle.words.specs.Sets.{setOf, packed}
 use Rattle.words.proofs.Bits.{set-packed, packed-set, packed-lt}
 use Rattle.marking.specs.Form.{padded, zeroFrom}
 use Rattle.marking.proofs.Padding.{zero-padded, padded-zero, length-padded}
-use Rattle.marking.proofs.InPlace.{table-take}
+use Rattle.bonds.proofs.InPlace.{table-take}
 use Rattle.firings.specs.Lines.{lying, firingAt, asLine, linesIn, stepsOf, setsOf, firingsOf}
 use Rattle.firings.specs.Form.{allWithin, usedInForm, unusedInForm}
 use Rattle.firings.specs.declared.Firings.{Firings}

@@ -3,15 +3,15 @@
 use mathlib.Core.Path.{_≡_, refl, sym, _∙_, ap}
 use mathlib.Core.Bool.{Bool, true, false, _&&_}
 use mathlib.Core.List.{List, [], _∷_}
-use Prim.Native.Nat.{ℕ, zero, suc, _+_, _<_, _≤_}
+use Prim.Native.Nat.{ℕ, suc, _<_, _≤_}
 use native.Mathlib.Omega.{arith}
 use lib.Dec.{eqb, ltb, leb}
 use lib.ListN.{length, getD, List·getD-eq-default}
-use borrow.Author.Tests.{eq-eqb, ne-eqb, ltb-true, ltb-false, lt-ltb, le-ltb, eqb-true, eqb-false}
+use borrow.Author.Tests.{eq-eqb, ne-eqb, ltb-true, ltb-false, le-ltb}
 use Rattle.causal.proofs.Tests.{test}
 use Rattle.net.specs.Limits.{maxKey}
 use Rattle.net.specs.declared.Key.{Key}
-use Rattle.net.specs.Tests.{pick, count, table}
+use Rattle.net.specs.Tests.{pick, count}
 use Rattle.net.specs.Journal.{LiveLine, lineKeys}
 use Rattle.net.proofs.Tests.{and-l, and-r}
 use Rattle.net.proofs.Tables.{length-table, getD-table}

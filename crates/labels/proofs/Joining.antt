@@ -58,10 +58,6 @@ pub renamed-same : (x y z : ℕ) → x ≡ y → z ≡ renamed y x z
 renamed-same x y z e = pick-case (λ (v : ℕ). z ≡ v) (eqb z y) x z (λ q. eqb-true z y q ∙ sym e) (λ _. refl)
 
 module _ (N : ℕ) where
-  -- the same bonds in another order, or with repeats
-  pub parted-same : (bs cs : List Bond) → ((b : Bond) → hasBond b bs ≡ hasBond b cs) → (l : List ℕ) → Parted N l bs → Parted N l cs
-  parted-same bs cs h l P = record { size = P .size; low = P .low; says = λ p q j k. P .says p q j k ∙ connected-same bs cs h p q }
-
   -- one more bond: the label of its second end gives way to that of its first
   pub parted-join : (bs : List Bond) (b : Bond) → Within N b → (l r : List ℕ) → r ≡ table N (λ p. renamed (labelIn l (b .hi)) (labelIn l (b .lo)) (labelIn l p))
       → Parted N l bs → Parted N r (put sameBond lessBond b bs)

@@ -1,6 +1,5 @@
 -- `firings::one_if_less` meets its contract.
 -- Assumes nothing but the laws of proofs/.
-use borrow.Author.Needs.{needs}
 use native.Mathlib.Omega.{arith}
 use mathlib.Core.Path.{refl}
 use borrow.Author.Tests.{lt-ltb, le-ltb}

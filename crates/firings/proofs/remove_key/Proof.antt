@@ -10,7 +10,7 @@ use Rattle.net.specs.Tests.{table}
 use Rattle.bonds.proofs.Fill.{fill-turn}
 use Rattle.marking.specs.Shift.{gap}
 use Rattle.marking.proofs.Shifts.{gap-below, gap-from}
-use Rattle.marking.proofs.InPlace.{fill-start, read-ahead, fill-last}
+use Rattle.bonds.proofs.InPlace.{fill-start, read-ahead, fill-last}
 use Rattle.firings.proofs.remove_key.Statement.{statement}
 use Rattle.firings.proofs.remove_key.Tie as tie
 

@@ -2,7 +2,7 @@
 -- Assumes nothing but the laws of proofs/.
 use borrow.Author.Needs.{needs}
 use native.Mathlib.Omega.{arith}
-use mathlib.Core.Path.{_≡_, ap, _∙_}
+use mathlib.Core.Path.{ap, _∙_}
 use Rattle.sheet.proofs.Accepted.{promised}
 use Rattle.session.specs.Lent.{recordAt, given}
 use Rattle.session.specs.declared.Record.{Record}

@@ -2,8 +2,7 @@
 -- Assumes nothing but the laws of proofs/.
 use borrow.Author.Needs.{needs}
 use native.Mathlib.Omega.{arith}
-use mathlib.Core.Path.{_≡_, sym, ap, _∙_}
-use Rattle.net.specs.Journal.{transition}
+use mathlib.Core.Path.{sym, ap, _∙_}
 use Rattle.session.specs.Lent.{recordAt, given}
 use Rattle.session.specs.declared.Record.{Record}
 use Rattle.session.specs.declared.Done.{Done}

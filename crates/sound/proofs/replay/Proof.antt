@@ -2,15 +2,14 @@
 -- Assumes nothing but the laws of proofs/.
 use borrow.Author.Needs.{needs}
 use borrow.Author.Tests.{not-true, not-false}
-use native.Mathlib.Omega.{arith}
-use mathlib.Core.Path.{_≡_, refl, sym, _∙_, ap}
-use mathlib.Core.Bool.{Bool, true, false, _&&_}
+use mathlib.Core.Path.{_≡_, refl, sym, _∙_}
+use mathlib.Core.Bool.{false}
 use Prim.Native.Nat.{ℕ, _-_, _^_, _<_, _≤_}
 use lib.ListN.{getD, drop}
 use Rattle.causal.proofs.Tests.{both}
 use Rattle.net.specs.Limits.{maxLive}
 use Rattle.net.specs.Net as Net
-use Rattle.net.specs.History.{sameMarking, replays}
+use Rattle.net.specs.History.{replays}
 use Rattle.format.specs.Parts.{basesOf}
 use Rattle.format.specs.NetOf.{netOf}
 use Rattle.bonds.specs.Ends.{bondsIn}

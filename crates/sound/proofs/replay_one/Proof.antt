@@ -1,8 +1,7 @@
 -- `sound::replay_one` meets its contract.
 -- Assumes nothing but the laws of proofs/.
 use borrow.Author.Needs.{needs}
-use borrow.Author.Tests.{eqb-true}
-use mathlib.Core.Path.{_≡_, refl, sym, _∙_}
+use mathlib.Core.Path.{_≡_, refl}
 use mathlib.Core.Bool.{true, false}
 use Rattle.causal.proofs.Tests.{both}
 use Rattle.net.specs.Checks.{clear}
