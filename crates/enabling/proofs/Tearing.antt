@@ -2,18 +2,19 @@
 -- Assumes nothing. N is the number of labels.
 use mathlib.Core.Path.{_≡_, refl, sym, _∙_, ap}
 use mathlib.Core.Logic.{_⊎_, inl, inr}
-use mathlib.Core.Bool.{Bool, true, false, not, _&&_}
+use mathlib.Core.Bool.{Bool, true, false, not, _&&_, _||_}
 use mathlib.Core.List.{List, [], _∷_}
 use Prim.Native.Nat.{ℕ, _<_}
+use native.Mathlib.Omega.{arith}
 use lib.Dec.{eqb}
-use lib.ListN.{getD}
+use lib.ListN.{length, getD}
 use borrow.Author.Tests.{eqb-true, eqb-false, eq-eqb, ne-eqb, not-true}
 use Rattle.causal.specs.Lists.{Mem}
 use Rattle.causal.proofs.Tests.{test}
 use Rattle.net.specs.Tests.{any, table}
 use Rattle.net.specs.Net.{Arcs, Marking}
 use Rattle.net.specs.Connection.{connected}
-use Rattle.net.specs.Firing.{tornApart}
+use Rattle.net.specs.Firing.{bondsSeen, tornApart}
 use Rattle.net.specs.declared.Entry.{Entry}
 use Rattle.net.proofs.Tests.{same-test, and-l, and-r, and-i, any-e, any-i, any-cong}
 use Rattle.net.proofs.Tables.{getD-table}
@@ -98,3 +99,16 @@ module _ (N : ℕ) (l : List ℕ) (t : Arcs) (s : Marking) (P : Parted N l (s .b
       any-cong (λ (e : Entry). not (eqb (e .to) (getD next (e .base) 0))) (λ (e : Entry). not (eqb (e .to) (g (e .base)))) (t .entries)
       (λ e m. ap (λ (x : ℕ). not (eqb (e .to) x)) (ap (λ (r : List ℕ). getD r (e .base) 0) q ∙ getD-table N g (e .base) 0 (h e m)))
       ∙ torn-first (labelIn l) (t .entries) (λ p. getD old p 0) ∙ torn-parted
+
+-- one entry has none to differ from
+pub few-together : (t : Arcs) (s : Marking) (n : ℕ) → n ≡ length (t .entries) → n < 2 → false ≡ tornApart t s
+few-together t s n e h = go (t .entries) (let z = e in omega arith)
+  where
+    go : (es : List Entry) → length es < 2 → false ≡ any (λ (e : Entry). any (λ (d : Entry). connected (bondsSeen t (s .bonds)) (e .base) (d .base) && not (eqb (e .to) (d .to))) es) es
+    go [] h = refl
+    go (a ∷ []) h = rw (eq-eqb (a .to) (a .to) refl) (sym (none (connected (bondsSeen t (s .bonds)) (a .base) (a .base))))
+      where
+        none : (b : Bool) → (b && false || false || false) ≡ false
+        none true = refl
+        none false = refl
+    go (a ∷ b ∷ es) h = absurd (let z : ⊥ = omega arith in z)

@@ -132,14 +132,17 @@ fn elsewhere(step: &[u8], places: &[Place; MAX_BASES]) -> bool
 }
 
 // 16: two entries with different out-places have connected bases. All entries are sent in a copy of the places: then the base
-// of one that is not the first of its group may be elsewhere. Callers have the places of a marking in its form, entries of
-// bases of the net, and labels by the marking's bonds.
+// of one that is not the first of its group may be elsewhere. One entry has none to differ from. Callers have the places of a
+// marking in its form, entries of bases of the net, and labels by the marking's bonds.
 pub fn torn_apart<'a>(step: &[u8], places: &'a [Place; MAX_BASES], l: &'a [Base; MAX_BASES]) -> bool
     requires { ⌜ length (now places) ≡ maxBases ⌝ }
     requires { ⌜ ((i : ℕ) → i < entryCount (now step) → nthEntry (now step) i .base < maxBases) ⌝ }
     ensures { λ r. ⌜
         ((s : Marking) → Parted maxBases (now (l .entry)) (s .bonds) → r ≡ tornApart (arcsIn (now (step .entry))) s) ⌝ }
 {
+    if entry_count(step) < 2 {
+        return false;
+    }
     let mut next = *places;
     send_entries(step, l, &mut next);
     elsewhere(step, &next)
