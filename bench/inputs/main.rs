@@ -27,6 +27,15 @@ fn plain_step(part: u8, from: u8, to: u8) -> Step {
     }
 }
 
+/// A step that moves these parts from place 0 to place 1 and makes these couplings.
+fn coupling_step(parts: impl Iterator<Item = u8>, outs: &[Coupling]) -> Step {
+    Step {
+        entries: parts.map(|part| (part, 0, 1)).collect(),
+        ins: vec![],
+        outs: outs.to_vec(),
+    }
+}
+
 fn word(n: usize) -> [u8; 2] {
     u16::try_from(n).expect("two bytes").to_le_bytes()
 }
@@ -123,6 +132,12 @@ fn out_of_order(n: usize) -> impl Iterator<Item = Command> {
     commands.into_iter().take(COMMANDS)
 }
 
+/// n steps all fire, and are taken back oldest first; then again. With none live the serials begin again.
+fn oldest_first(n: usize) -> impl Iterator<Item = Command> {
+    let round: Vec<Command> = (0..n).map(fire).chain((1..=n).map(undo)).collect();
+    round.into_iter().cycle().take(COMMANDS)
+}
+
 /// 200 firings stand, and everything after them is refused.
 fn refusals() -> impl Iterator<Item = Command> {
     let bad = [
@@ -167,6 +182,36 @@ fn main() {
         in_order(1),
     );
     write(folder, "refused", &apart, refusals());
+
+    // The coupling of parts 0 and 1 comes before all others in their order.
+    let first = [coupling_step(0..2, &all[..1])];
+    for others in [&[], &line[1..], &all[1..]] {
+        write(
+            folder,
+            &format!("beside{}", others.len()),
+            &sheet(others, &first),
+            in_order(1),
+        );
+    }
+    for outs in [&[], &line[..]] {
+        write(
+            folder,
+            &format!("wide{}", outs.len()),
+            &sheet(&[], &[coupling_step(0..PARTS, outs)]),
+            in_order(1),
+        );
+    }
+    let couples: Vec<Step> = (0..PARTS)
+        .step_by(2)
+        .map(|p| coupling_step(p..p + 2, &[(p, p + 1)]))
+        .collect();
+    write(
+        folder,
+        &format!("couples{}", couples.len()),
+        &sheet(&[], &couples),
+        oldest_first(couples.len()),
+    );
+
     let again = || [UNDO_LAST, fire(63)].into_iter().cycle();
     write(folder, "single_before", &apart, filled(MOST_LIVE));
     write(

@@ -9,7 +9,7 @@ use std::process::{exit, Command, Stdio};
 use std::time::Duration;
 use usage::time_of_children;
 
-const WHOLE: [(&str, &str); 9] = [
+const WHOLE: [(&str, &str); 15] = [
     ("live1", "1 live, taken back in order"),
     ("live64", "64 live, taken back in order"),
     ("live256", "256 live, taken back in order"),
@@ -18,6 +18,12 @@ const WHOLE: [(&str, &str); 9] = [
     ("middle256", "256 live, the oldest free one taken back"),
     ("chain63", "64 parts in a chain of 63 couplings, all moved"),
     ("all2016", "64 parts with all 2,016 couplings, all moved"),
+    ("beside0", "1 coupling made and removed, no other"),
+    ("beside62", "1 coupling made, a chain of 62 beside it"),
+    ("beside2015", "1 coupling made, 2,015 others beside it"),
+    ("wide0", "a step of 64 entries, no coupling"),
+    ("wide63", "a step of 64 entries that makes 63 couplings"),
+    ("couples32", "32 couples made, the oldest taken back first"),
     ("refused", "200 live, then refusals only"),
 ];
 

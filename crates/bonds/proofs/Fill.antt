@@ -4,16 +4,19 @@ use mathlib.Core.Path.{_≡_, refl, sym, _∙_, ap}
 use mathlib.Core.Logic.{inl, inr}
 use mathlib.Core.Bool.{Bool, true, false, _||_, or-false, or-assoc}
 use mathlib.Core.List.{List, [], _∷_, _++_, map, append-assoc}
-use Prim.Native.Nat.{ℕ, zero, suc, _+_, _<_, _≤_}
+use Prim.Native.Nat.{ℕ, zero, suc, _+_, _-_, _<_, _≤_}
 use native.Mathlib.Omega.{arith}
 use native.Mathlib.Numerals.{add-one}
 use native.Mathlib.Nat.{le-of-suc-le-suc, not-suc-le-zero}
-use lib.ListN.{length, getD, drop, set, drop-of-length-le}
-use lib.Seq.{drop-cons, set-at}
+use lib.Dec.{eqb}
+use lib.ListN.{length, getD, drop, set, length-set, drop-of-length-le}
+use lib.Seq.{ext-getD, drop-cons, set-at, getD-set-same, getD-set-other}
+use borrow.Author.Tests.{eqb-true, eqb-false}
 use Rattle.causal.specs.Lists.{Mem}
+use Rattle.causal.proofs.Tests.{test}
 use Rattle.net.specs.Tests.{pick, count, table}
 use Rattle.net.specs.Sorted.{has}
-use Rattle.net.proofs.Tables.{length-table, table-more, table-list}
+use Rattle.net.proofs.Tables.{length-table, getD-table, table-more, table-list}
 
 pub pick-one : (b : Bool) → pick b 1 0 ≤ 1
 pick-one true = omega arith
@@ -59,6 +62,29 @@ module _ {X : Type 0} where
   pub count-le : (t : X → Bool) (l : List X) → count t l ≤ length l
   count-le t [] = omega arith
   count-le t (y ∷ l) = let a = count-le t l in let b = pick-one (t y) in omega arith
+
+  -- one store in a table
+  pub set-table : (N : ℕ) (f : ℕ → X) (x : ℕ) (v : X) → x < N → set (table N f) x v ≡ table N (λ y. pick (eqb x y) v (f y))
+  set-table N f x v h = ext-getD v (set (table N f) x v) (table N (λ y. pick (eqb x y) v (f y)))
+      (length-set (table N f) x v ∙ length-table N f ∙ sym (length-table N (λ y. pick (eqb x y) v (f y))))
+      (λ i k. let s = length-set (table N f) x v in let t = length-table N f in at i (omega arith))
+    where
+      at : (i : ℕ) → i < N → getD (set (table N f) x v) i v ≡ getD (table N (λ y. pick (eqb x y) v (f y))) i v
+      at i k = test (eqb x i)
+          (λ e. let q : x ≡ i = eqb-true x i e in
+          ap (λ (j : ℕ). getD (set (table N f) x v) j v) (sym q) ∙ getD-set-same (table N f) x v v (rw (length-table N f) h)
+          ∙ sym (getD-table N (λ y. pick (eqb x y) v (f y)) i v k ∙ rw e))
+          (λ e. let q : i ≡ x → ⊥ = λ d. eqb-false x i e (sym d) in
+          getD-set-other (table N f) x i v v q ∙ getD-table N f i v k ∙ sym (getD-table N (λ y. pick (eqb x y) v (f y)) i v k ∙ rw e))
+
+  -- a loop from the last element to the first
+  pub drop-back : (n L : ℕ) (f : ℕ → X) → 0 < L → L ≤ n → drop (L - 1) (table n f) ≡ f (L - 1) ∷ drop L (table n f)
+  drop-back n L f a b =
+      let s : L - 1 < length (table n f) = rw (length-table n f) (omega arith) in
+      let q : suc (L - 1) ≡ L = omega arith in
+      drop-cons (table n f) (L - 1) (f 0) s
+      ∙ ap (λ (x : X). x ∷ drop (suc (L - 1)) (table n f)) (getD-table n f (L - 1) (f 0) (omega arith))
+      ∙ ap (λ (k : ℕ). f (L - 1) ∷ drop k (table n f)) q
 
 module _ {X Y : Type 0} where
   pub map-table : (g : X → Y) (n : ℕ) (f : ℕ → X) → map g (table n f) ≡ table n (λ i. g (f i))

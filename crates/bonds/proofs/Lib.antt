@@ -1,3 +1,5 @@
--- Laws that the proofs of this crate's functions cite, and the crates above: loops that fill a list, labels after a bond.
+-- Laws that the proofs of this crate's functions cite, and the crates above: loops that fill a list, lists changed in
+-- place, ascending tables.
 pub mod Fill
-pub mod Renaming
+pub mod InPlace
+pub mod Halves

@@ -2,9 +2,8 @@
 -- Definitions only.
 use mathlib.Core.List.{List}
 use Prim.Native.Nat.{ℕ}
-use lib.Dec.{eqb}
 use lib.ListN.{getD}
-use Rattle.net.specs.Tests.{pick, count, table}
+use Rattle.net.specs.Tests.{count, table}
 use Rattle.net.specs.Net.{bond, lessBond}
 use Rattle.net.specs.declared.Bond.{Bond}
 
@@ -19,7 +18,3 @@ bondsIn lo hi n = table n (ends lo hi)
 -- how many of them are less than b
 abbrev pub rankIn : List ℕ → List ℕ → ℕ → Bond → ℕ
 rankIn lo hi n b = count (λ (c : Bond). lessBond c b) (bondsIn lo hi n)
-
--- a label after one label gave way to another
-abbrev pub renamed : ℕ → ℕ → ℕ → ℕ
-renamed from to x = pick (eqb x from) to x

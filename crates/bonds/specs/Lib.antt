@@ -1,2 +1,2 @@
--- Bonds that lie in two lists of ends, and labels that are renamed.
+-- Bonds that lie in two lists of ends.
 pub mod Ends

@@ -6,34 +6,18 @@ use crate::compare::MOVED;
 use crate::compare::UNUSED;
 use crate::compare::unless;
 use firings::Firing;
-use net::MAX_BASES;
+use firings::Firings;
+use firings::firing_at;
 use net::MAX_LIVE;
 use oracle::key_at;
 use oracle::moved_at;
 use oracle::slot_after;
 use oracle::transition_at;
-use oracle_net::sets::only;
 use session::Record;
-
-fn flag(moved: bool, base: usize) -> u64 {
-    if moved { only(base) } else { 0 }
-}
-
-// Flags as a set.
-fn set_of(moved: [bool; MAX_BASES]) -> u64 {
-    let mut all: u64 = 0;
-    let mut i: usize = 0;
-    while i < MAX_BASES {
-        all = all | flag(moved[i], i);
-        i += 1;
-    }
-    all
-}
 
 // An entry of ours against a slot; 256 is no slot, and the entry is to be 0.
 fn entry_differs(h: &[u64], slot: usize, f: Firing) -> u64 {
-    let moved = f.moved;
-    let set = set_of(moved);
+    let set = f.moved;
     let t = f.transition as usize;
     let key = f.key.0;
     if slot == 256 {
@@ -56,13 +40,13 @@ fn following(h: &[u64], slot: usize, first: bool) -> usize
     slot_after(h, key_at(h, slot))
 }
 
-fn entries_differ(firings: [Firing; MAX_LIVE], h: &[u64]) -> u64 {
+fn entries_differ(firings: Firings, h: &[u64]) -> u64 {
     let mut all: u64 = 0;
     let mut slot: usize = 256;
     let mut i: usize = 0;
     while i < MAX_LIVE {
         slot = following(h, slot, i == 0);
-        let f = firings[i];
+        let f = firing_at(&firings.transitions, &firings.keys, &firings.moved, i);
         all = all | entry_differs(h, slot, f);
         i += 1;
     }
@@ -71,5 +55,5 @@ fn entries_differ(firings: [Firing; MAX_LIVE], h: &[u64]) -> u64 {
 
 pub fn live_differs(r: Record, h: &[u64]) -> u64 {
     let firings = r.firings;
-    unless(r.live == oracle::live(h), LIVE) | entries_differ(firings, h)
+    unless(firings.live == oracle::live(h), LIVE) | entries_differ(firings, h)
 }

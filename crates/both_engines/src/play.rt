@@ -102,7 +102,7 @@ pub fn turn(p: Played, sheet: &[u8], g: Given, seed: u64, m: &mut [u64], h: &mut
 
 // The record with another key in the last live firing: it stays sound where that is above the others.
 fn with_last_key(r: Record, key: u16) -> Record {
-    let live = r.live;
+    let live = r.firings.live;
     if live == 0 {
         r
     } else {

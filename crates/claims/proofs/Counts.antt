@@ -117,7 +117,7 @@ module _ (s : List ℕ) (accepted : clear (sheetChecks s) ≡ true) (ok : netRul
       let e : runOf s (c ∷ cs) (recordOf j) t .tally ≡ runOf s cs (recordOf j′) t′ .tally = ap (λ (y : Session). y .tally) same in
       rw e (record { live = rest .live; all = omega arith })
 
-  live-of : (j : Journal) → recordOf j .live ≡ length (j .lines)
+  live-of : (j : Journal) → recordOf j .firings .live ≡ length (j .lines)
   unfolding recordOf
   live-of j = refl
 
@@ -132,5 +132,5 @@ module _ (s : List ℕ) (accepted : clear (sheetChecks s) ≡ true) (ok : netRul
         let A = adds-run cs (begin (netOf s)) zeroTally 0 (begin-held (netOf s) ok) (record { live = refl; all = refl }) (omega arith) in
         let B : Adds (runOf s cs (freshOf s) zeroTally .tally) (play (netOf s) cs (begin (netOf s))) (0 + length cs) = rw fresh-is A in
         B .live ∙ ap (λ (n : ℕ). runOf s cs (freshOf s) zeroTally .tally .undone + n)
-        (sym (live-of (play (netOf s) cs (begin (netOf s)))) ∙ ap (λ (r : Record). r .live) (sym (follows-fresh s accepted ok few cs zeroTally .session)));
+        (sym (live-of (play (netOf s) cs (begin (netOf s)))) ∙ ap (λ (r : Record). r .firings .live) (sym (follows-fresh s accepted ok few cs zeroTally .session)));
   }

@@ -30,7 +30,7 @@ module _ (s : List ℕ) (accepted : clear (sheetChecks s) ≡ true) (ok : netRul
   module _ (r : Record) (passes : soundFor s r ≡ true) where
     pub passes-held : Held (netOf s) (heldIn s r)
     unfolding soundIn
-    passes-held = sound-held (netOf s) (heldIn s r) (and-r (formed (basesOf s) (r .marking) (r .live) (r .firings)) _ passes)
+    passes-held = sound-held (netOf s) (heldIn s r) (and-r (formed (basesOf s) (r .marking) (r .firings)) _ passes)
 
     abbrev j : Journal
     j = heldIn s r

@@ -126,7 +126,7 @@ pub record SessionTotals (s : List ℕ) (cs : List (List ℕ)) : Type 0 where
   -- at every point each base is in one place, bonded bases share a place, and the bonds have their number
   pub marking : Totals (netOf s) (journalAfter s cs)
   -- over at most 65,535 commands from a tally of zeros, fired less undone is the number of live firings
-  pub live : length cs ≤ maxCount → sessionAfter s cs zeroTally .tally .fired ≡ sessionAfter s cs zeroTally .tally .undone + sessionAfter s cs zeroTally .session .live
+  pub live : length cs ≤ maxCount → sessionAfter s cs zeroTally .tally .fired ≡ sessionAfter s cs zeroTally .tally .undone + sessionAfter s cs zeroTally .session .firings .live
 
 -- ---- All of it: 1 and 2 of every sheet, record, tally and command; the published definition, 3 and the totals of every accepted
 -- sheet

@@ -1,6 +1,6 @@
 // Whether two session records are the same in every entry, used or not.
 // A refused command has to hand back the very record.
-use firings::Firing;
+use firings::Firings;
 use marking::Marking;
 use net::MAX_BASES;
 use net::MAX_BONDS;
@@ -27,33 +27,47 @@ fn same_ends(a: [u8; MAX_BONDS], b: [u8; MAX_BONDS]) -> bool {
     ok
 }
 
-fn same_moved(a: [bool; MAX_BASES], b: [bool; MAX_BASES]) -> bool {
+fn same_transitions(a: [u8; MAX_LIVE], b: [u8; MAX_LIVE]) -> bool {
     let mut ok = true;
     let mut i: usize = 0;
-    while i < MAX_BASES {
+    while i < MAX_LIVE {
         ok = ok & (a[i] == b[i]);
         i += 1;
     }
     ok
 }
 
-fn same_firing(a: Firing, b: Firing) -> bool {
-    let m = a.moved;
-    let n = b.moved;
-    let moved = same_moved(m, n);
-    moved & ((a.transition == b.transition) & (a.key.0 == b.key.0))
-}
-
-fn same_firings(a: [Firing; MAX_LIVE], b: [Firing; MAX_LIVE]) -> bool {
+fn same_keys(a: [u16; MAX_LIVE], b: [u16; MAX_LIVE]) -> bool {
     let mut ok = true;
     let mut i: usize = 0;
     while i < MAX_LIVE {
-        let f = a[i];
-        let g = b[i];
-        ok = ok & same_firing(f, g);
+        ok = ok & (a[i] == b[i]);
         i += 1;
     }
     ok
+}
+
+fn same_moved(a: [u64; MAX_LIVE], b: [u64; MAX_LIVE]) -> bool {
+    let mut ok = true;
+    let mut i: usize = 0;
+    while i < MAX_LIVE {
+        ok = ok & (a[i] == b[i]);
+        i += 1;
+    }
+    ok
+}
+
+fn same_firings(a: Firings, b: Firings) -> bool {
+    let s = a.transitions;
+    let t = b.transitions;
+    let transitions = same_transitions(s, t);
+    let k = a.keys;
+    let l = b.keys;
+    let keys = same_keys(k, l);
+    let m = a.moved;
+    let n = b.moved;
+    let moved = same_moved(m, n);
+    transitions & (keys & (moved & (a.live == b.live)))
 }
 
 fn same_marking(a: Marking, b: Marking) -> bool {
@@ -76,5 +90,5 @@ pub fn same_record(a: Record, b: Record) -> bool {
     let f = a.firings;
     let g = b.firings;
     let firings = same_firings(f, g);
-    marking & (firings & (a.live == b.live))
+    marking & firings
 }

@@ -16,11 +16,11 @@ use Rattle.net.proofs.Tests.{or-e, or-r}
 use Rattle.net.proofs.Tables.{length-table}
 use Rattle.net.proofs.Sorted.{has-puts, ascending-puts}
 use Rattle.net.proofs.Bonds.{bond-order}
+use Rattle.bonds.proofs.Fill.{drop-back}
 use Rattle.marking.specs.declared.Marking.{Marking}
 use Rattle.marking.specs.Form.{bondsOf, withBonds, InOrder}
 use Rattle.marking.proofs.Forms.{bonds-with, in-order-with}
 use Rattle.marking.proofs.Room.{bonds-fit}
-use Rattle.groups.proofs.Firsts.{drop-back}
 use Rattle.engine.specs.Change.{Low}
 
 has-drop : (b : Bond) (L : ℕ) (l : List Bond) → hasBond b (drop L l) ≡ true → hasBond b l ≡ true

@@ -40,7 +40,7 @@ module _ {X : Type 0} where
       go true false e ih = rw e ih
       go false b e ih = ih
 
-  pub keep-length : (f : X → Bool) (l : List X) → length (keep f l) ≤ length l
+  keep-length : (f : X → Bool) (l : List X) → length (keep f l) ≤ length l
   keep-length f [] = omega arith
   keep-length f (x ∷ l) = go (f x) (keep-length f l)
     where
@@ -93,7 +93,7 @@ module _ (t : Arcs) (m : Marking) (I : InOrder m) (f : ℕ → Bond) where
       let r = I .room in
       omega arith
 
-  pub left-order : (i : ℕ) → InOrder (withBonds m (left i))
+  left-order : (i : ℕ) → InOrder (withBonds m (left i))
   left-order i = in-order-with m (left i) (left-room i)
       (ascending-keep sameBond lessBond bond-order (λ (c : Bond). not (hasBond c (table i f) && not (hasBond c (t .inBonds)))) (bondsOf m) (I .order))
 

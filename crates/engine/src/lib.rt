@@ -1,26 +1,31 @@
-// Firing a transition and taking it back (document 01), on a marking in its form before and after: in place on the arrays
-// that hold it, and by value above that. The transition is read from its bytes in the caller's sheet.
+// Firing a transition and taking it back (document 01), in place on the arrays that hold a marking, in its form before and
+// after, and on the labels by its bonds. The transition is read from its bytes in the caller's sheet.
 ghost use mathlib.Core.Path.{_≡_};
-ghost use mathlib.Core.Bool.{false, not};
+ghost use mathlib.Core.Bool.{not};
+ghost use mathlib.Core.List.{List};
+ghost use Prim.Native.Nat.{ℕ, _<_, _≤_};
 ghost use lib.ListN.{length, getD};
-ghost use Rattle.net.specs.Limits.{maxBases};
-ghost use Rattle.net.specs.Tests.{pick, keep, table};
+ghost use Rattle.net.specs.Limits.{maxBases, maxBonds};
+ghost use Rattle.net.specs.Tests.{keep};
 ghost use Rattle.net.specs.Sorted.{puts};
 ghost use Rattle.net.specs.Net.{sameBond, lessBond};
 ghost use Rattle.net.specs.Firing.{fire, undo, newBond};
-ghost use Rattle.format.specs.Arcs.{arcsIn};
+ghost use Rattle.net.specs.declared.Bond.{Bond};
+ghost use Rattle.format.specs.Arcs.{outCount, nthOutBond, arcsIn};
+ghost use Rattle.words.specs.Sets.{setOf};
 ghost use Rattle.bonds.specs.Ends.{bondsIn};
+ghost use Rattle.labels.specs.Labelled.{Labelled, Within, Fits};
 ghost use Rattle.marking.specs.Form.{markingOf, withBonds, laid, InOrder};
 ghost use Rattle.marking.specs.Held.{holding, holdingBonds};
 ghost use Rattle.enabling.specs.Ready.{Ready};
 ghost use Rattle.engine.specs.Change.{HasRoom, stays};
-use bonds::labels;
 use enabling::is_in_bond;
 use format::out_bond;
 use format::out_count;
-use groups::chosen;
+use groups::send_back;
 use groups::send_entries;
-use marking::Marking;
+use labels::join;
+use labels::label_in;
 use marking::put_bond;
 use marking::take_bond;
 use net::Base;
@@ -100,102 +105,95 @@ fn take_new_bonds(
     held
 }
 
-// The bases of the set `may` go where `next` has them. `undo_in` has the places of a marking in its form.
-fn send_some<'a>(
-    may: &'a [bool; MAX_BASES],
-    next: &'a [Place; MAX_BASES],
-    places: &mut [Place; MAX_BASES],
-)
-    requires { ⌜ length (now places) ≡ maxBases ⌝ }
+// The labels and their sets once the transition's out-bonds are in. A bond that is there already changes nothing.
+// `fire_in` has labels by the bonds, and the out-bonds of an accepted transition are of bases of the net.
+fn join_out_bonds(step: &[u8], l: &mut [Base; MAX_BASES], members: &mut [u64; MAX_BASES])
+    requires { ⌜
+        Fits (now l) (now members) × ((i : ℕ) → i < outCount (now step) → Within maxBases (nthOutBond (now step) i)) ⌝ }
     ensures { λ _. ⌜
-        now (places .exit)
-        ≡ table maxBases (λ p. pick (getD (now (may .entry)) p false) (getD (now (next .entry)) p 0) (getD (now (places .entry)) p 0)) ⌝ }
+        ((bs : List Bond) → Labelled (now (l .entry)) (now (members .entry)) bs
+        → Labelled (now (l .exit)) (now (members .exit)) (puts sameBond lessBond (arcsIn (now (step .entry)) .outBonds) bs)) ⌝ }
 {
-    let mut p = 0;
-    while p < MAX_BASES {
-        places[p] = chosen(may[p], next[p], places[p]);
-        p += 1;
+    let mut rest = out_count(step);
+    while 0 < rest {
+        rest -= 1;
+        let b = out_bond(step, rest);
+        join(l, members, b);
     }
 }
 
-// Fires the transition in place: every base whose group an entry hits goes to the out-place of the first such entry; the
-// out-bonds are added. Answers how many bonds there are then. `fire` has what this asks.
-fn fire_in(
+// The labels of the `held` bonds that are left of `count`: made anew where some went. `undo_in` has the bonds of a good
+// marking, and labels by those that were there: where none went, these are the same.
+fn relabel<'a>(
+    l: &mut [Base; MAX_BASES],
+    members: &mut [u64; MAX_BASES],
+    lo: &'a [Base; MAX_BONDS],
+    hi: &'a [Base; MAX_BONDS],
+    count: usize,
+    held: usize,
+)
+    requires { ⌜ (length (now l) ≡ maxBases) × (held ≤ maxBonds) ⌝ }
+    requires { ⌜ ((i : ℕ) → i < held → (getD (now lo) i 0 < maxBases) × (getD (now hi) i 0 < maxBases)) ⌝ }
+    requires { ⌜ (held ≡ count → Labelled (now l) (now members) (bondsIn (now lo) (now hi) held)) ⌝ }
+    ensures { λ _. ⌜ Labelled (now (l .exit)) (now (members .exit)) (bondsIn (now (lo .entry)) (now (hi .entry)) held) ⌝ }
+{
+    if held == count {
+        return;
+    }
+    label_in(l, members, lo, hi, held);
+}
+
+// Fires the transition: every base whose group an entry hits goes to the out-place of the first such entry; the out-bonds are
+// added, and join labels. Answers how many bonds there are then. Callers have a marking in its form and good, an accepted
+// sheet, so it is ready (the proofs of steps), and labels by the marking's bonds, here and below.
+pub fn fire_in(
     step: &[u8],
     n: usize,
     places: &mut [Place; MAX_BASES],
     count: usize,
     lo: &mut [Base; MAX_BONDS],
     hi: &mut [Base; MAX_BONDS],
+    l: &mut [Base; MAX_BASES],
+    members: &mut [u64; MAX_BASES],
 ) -> usize
-    requires { ⌜ Ready n (arcsIn (now step)) (holding (now places) count (now lo) (now hi)) ⌝ }
+    requires { ⌜
+        Ready n (arcsIn (now step)) (holding (now places) count (now lo) (now hi))
+        × Labelled (now l) (now members) (bondsIn (now lo) (now hi) count) ⌝ }
     ensures { λ r. ⌜
         holding (now (places .exit)) r (now (lo .exit)) (now (hi .exit))
         ≡ laid (fire n (arcsIn (now (step .entry)))
         (markingOf n (holding (now (places .entry)) count (now (lo .entry)) (now (hi .entry))))) ⌝ }
+    ensures { λ r. ⌜ Labelled (now (l .exit)) (now (members .exit)) (bondsIn (now (lo .exit)) (now (hi .exit)) r) ⌝ }
 {
-    let l = labels(lo, hi, count);
-    send_entries(step, &l, places, false);
+    send_entries(step, l, places);
+    join_out_bonds(step, l, members);
     put_out_bonds(step, lo, hi, count)
 }
 
-// Takes the transition back in place: the bonds that it made go; then each base of `moved` goes to the in-place of the
-// entries to which it is still connected. Answers how many bonds there are then. `undo` has what this asks.
-fn undo_in(
+// Takes the transition back: the bonds that it made go; then each base of `moved` goes to the in-place of the entries to which
+// it is still connected. Answers how many bonds there are then.
+pub fn undo_in(
     step: &[u8],
     n: usize,
     places: &mut [Place; MAX_BASES],
     count: usize,
     lo: &mut [Base; MAX_BONDS],
     hi: &mut [Base; MAX_BONDS],
-    moved: &[bool; MAX_BASES],
+    l: &mut [Base; MAX_BASES],
+    members: &mut [u64; MAX_BASES],
+    moved: u64,
 ) -> usize
-    requires { ⌜ Ready n (arcsIn (now step)) (holding (now places) count (now lo) (now hi)) ⌝ }
+    requires { ⌜
+        Ready n (arcsIn (now step)) (holding (now places) count (now lo) (now hi))
+        × Labelled (now l) (now members) (bondsIn (now lo) (now hi) count) ⌝ }
     ensures { λ r. ⌜
         holding (now (places .exit)) r (now (lo .exit)) (now (hi .exit))
-        ≡ laid (undo n (arcsIn (now (step .entry))) (now (moved .entry))
+        ≡ laid (undo n (arcsIn (now (step .entry))) (setOf n moved)
         (markingOf n (holding (now (places .entry)) count (now (lo .entry)) (now (hi .entry))))) ⌝ }
+    ensures { λ r. ⌜ Labelled (now (l .exit)) (now (members .exit)) (bondsIn (now (lo .exit)) (now (hi .exit)) r) ⌝ }
 {
     let held = take_new_bonds(step, lo, hi, count);
-    let l = labels(lo, hi, held);
-    let mut next = *places;
-    send_entries(step, &l, &mut next, true);
-    send_some(moved, &next, places);
+    relabel(l, members, lo, hi, count, held);
+    send_back(step, l, members, places, moved);
     held
-}
-
-// Fires the transition on a marking by value. Callers have a marking in its form and good, and an accepted sheet: so it is
-// ready (the proofs of steps).
-pub fn fire(step: &[u8], n: usize, m: Marking) -> Marking
-    requires { ⌜ Ready n (arcsIn (now step)) m ⌝ }
-    ensures { λ r. ⌜ r ≡ laid (fire n (arcsIn (now (step .entry))) (markingOf n m)) ⌝ }
-{
-    let mut places = m.places;
-    let mut lo = m.lo;
-    let mut hi = m.hi;
-    let count = fire_in(step, n, &mut places, m.count, &mut lo, &mut hi);
-    Marking {
-        places: places,
-        count: count,
-        lo: lo,
-        hi: hi,
-    }
-}
-
-// Takes the transition back on a marking by value. Callers have a marking in its form and good, and an accepted sheet, as
-// above.
-pub fn undo(step: &[u8], n: usize, m: Marking, moved: [bool; MAX_BASES]) -> Marking
-    requires { ⌜ Ready n (arcsIn (now step)) m ⌝ }
-    ensures { λ r. ⌜ r ≡ laid (undo n (arcsIn (now (step .entry))) moved (markingOf n m)) ⌝ }
-{
-    let mut places = m.places;
-    let mut lo = m.lo;
-    let mut hi = m.hi;
-    let count = undo_in(step, n, &mut places, m.count, &mut lo, &mut hi, &moved);
-    Marking {
-        places: places,
-        count: count,
-        lo: lo,
-        hi: hi,
-    }
 }

@@ -1,77 +1,109 @@
--- One line more, and one less, in the array of lines.
+-- One line more, and one less, in the arrays of lines.
 -- Assumes nothing.
-use mathlib.Core.Path.{_≡_, sym, _∙_, ap}
+use mathlib.Core.Path.{_≡_, refl, sym, _∙_, ap}
 use mathlib.Core.List.{List, [], _∷_, _++_, map, map-append, append-assoc}
-use Prim.Native.Nat.{ℕ, zero, suc, _+_, _<_, _-_}
+use Prim.Native.Nat.{ℕ, zero, suc, _+_, _-_, _<_, _≤_}
 use native.Mathlib.Omega.{arith}
-use native.Mathlib.Numerals.{add-one}
-use lib.ListN.{length, getD, set, replicate, length-append, length-map}
 use native.Mathlib.Nat.{suc-add}
+use native.Mathlib.Numerals.{add-one}
 use lib.Dec.{ltb}
-use lib.Seq.{set-at, take-append-seam}
+use lib.ListN.{length, getD, drop, set, replicate, length-append, length-map}
+use lib.Seq.{set-at, drop-at, take-append-seam}
 use borrow.Author.Tests.{ltb-true, ltb-false}
 use Rattle.causal.proofs.Tests.{test}
 use Rattle.net.specs.Limits.{maxLive}
 use Rattle.net.specs.Tests.{table}
 use Rattle.net.specs.Journal.{LiveLine}
 use Rattle.net.proofs.Tables.{table-cong}
+use Rattle.words.specs.Sets.{packed}
+use Rattle.marking.specs.Form.{padded}
 use Rattle.marking.specs.Shift.{gap}
 use Rattle.marking.proofs.Shifts.{gap-below, gap-from}
-use Rattle.firings.proofs.Lists.{table-take}
-use Rattle.firings.specs.Lines.{past, noFiring, firingOf, firingsOf, closedUp}
-use Rattle.firings.specs.declared.Firing.{Firing}
+use Rattle.bonds.proofs.InPlace.{table-take}
+use Rattle.firings.specs.Lines.{lying, firingsOf, closed, closedUp}
 
 -- ---- one more
 
-one-off : {X : Type 0} (n : ℕ) (x : X) → 0 < n → replicate n x ≡ x ∷ replicate (n - 1) x
-one-off zero x h = absurd (let z : ⊥ = omega arith in z)
-one-off (suc n) x h = let e : suc n - 1 ≡ n = omega arith in rw e
+one-off : (n : ℕ) → 0 < n → replicate {A = ℕ} n 0 ≡ 0 ∷ replicate (n - 1) 0
+one-off zero h = absurd (let z : ⊥ = omega arith in z)
+one-off (suc n) h = let e : suc n - 1 ≡ n = omega arith in rw e
+
+-- a number stored after the others, in place of a zero
+padded-more : (N : ℕ) (l : List ℕ) (x : ℕ) → length l < N → set (padded N l) (length l) x ≡ padded N (l ++ (x ∷ []))
+padded-more N l x h =
+    let k : ℕ = length l in
+    let less : N - k - 1 ≡ N - length (l ++ (x ∷ [])) = (let e = length-append l (x ∷ []) in omega arith) in
+    ap (λ (r : List ℕ). set (l ++ r) k x) (one-off (N - k) (omega arith))
+    ∙ set-at l 0 (replicate (N - k - 1) 0) x k refl
+    ∙ sym (append-assoc l (x ∷ []) (replicate (N - k - 1) 0))
+    ∙ ap (λ (n : ℕ). (l ++ (x ∷ [])) ++ replicate n 0) less
+
+module _ (g : LiveLine → ℕ) (ls : List LiveLine) where
+  -- the array of all g, one line more
+  array-more : (l : LiveLine) (k x : ℕ) (a : List ℕ) → length ls < maxLive → k ≡ length ls → x ≡ g l → a ≡ padded maxLive (map g ls) → set a k x ≡ padded maxLive (map g (ls ++ (l ∷ [])))
+  array-more l k x a h ek ex ea =
+      let size : length (map g ls) ≡ length ls = length-map ls g in
+      (λ i. set (ea i) ((ek ∙ sym size) i) (ex i)) ∙ padded-more maxLive (map g ls) (g l) (omega arith) ∙ ap (padded maxLive) (sym (map-append g ls (l ∷ [])))
 
 -- a firing stored after the live ones is a line at the end
-pub with-line : (ls : List LiveLine) (l : LiveLine) → length ls < maxLive → set (firingsOf ls) (length ls) (firingOf l) ≡ firingsOf (ls ++ (l ∷ []))
-with-line ls l h =
-    let k : ℕ = length ls in
-    let live : k + 1 ≡ length (ls ++ (l ∷ [])) = sym (length-append ls (l ∷ [])) in
-    let less : maxLive - k - 1 ≡ maxLive - length (ls ++ (l ∷ [])) = omega arith in
-    ap (λ (r : List Firing). set (map firingOf ls ++ r) k (firingOf l)) (one-off (maxLive - k) noFiring (omega arith))
-    ∙ set-at (map firingOf ls) noFiring (replicate (maxLive - k - 1) noFiring) (firingOf l) k (length-map ls firingOf)
-    ∙ sym (append-assoc (map firingOf ls) (firingOf l ∷ []) (replicate (maxLive - k - 1) noFiring))
-    ∙ ap (λ (fs : List Firing). fs ++ replicate (maxLive - k - 1) noFiring) (sym (map-append firingOf ls (l ∷ [])))
-    ∙ ap (λ (n : ℕ). map firingOf (ls ++ (l ∷ [])) ++ replicate n noFiring) less
+pub with-line : (ls : List LiveLine) (l : LiveLine) (k t u w : ℕ) (ts ks ms : List ℕ) → length ls < maxLive → k ≡ length ls
+    → t ≡ l .transition .0 → u ≡ l .key .0 → w ≡ packed (l .moved)
+    → lying k ts ks ms ≡ firingsOf ls → lying (k + 1) (set ts k t) (set ks k u) (set ms k w) ≡ firingsOf (ls ++ (l ∷ []))
+with-line ls l k t u w ts ks ms h ek et eu ew e =
+    let live : k + 1 ≡ length (ls ++ (l ∷ [])) = (let b = length-append ls (l ∷ []) in omega arith) in
+    let a = array-more (λ (x : LiveLine). x .transition .0) ls l k t ts h ek et (ap (λ f. f .transitions) e) in
+    let b = array-more (λ (x : LiveLine). x .key .0) ls l k u ks h ek eu (ap (λ f. f .keys) e) in
+    let c = array-more (λ (x : LiveLine). packed (x .moved)) ls l k w ms h ek ew (ap (λ f. f .moved) e) in
+    λ i. lying (live i) (a i) (b i) (c i)
 
 -- ---- one less
 
 -- a list read past a gap
-gap-list : {X : Type 0} (d x : X) (xs ys r : List X) → table (length (xs ++ ys)) (gap (length xs) (λ i. getD (xs ++ x ∷ ys ++ r) i d)) ≡ xs ++ ys
-gap-list d x [] ys r =
-    let f : ℕ → _ = λ i. getD (x ∷ ys ++ r) i d in
+gap-list : (x : ℕ) (xs ys r : List ℕ) → table (length (xs ++ ys)) (gap (length xs) (λ i. getD (xs ++ x ∷ ys ++ r) i 0)) ≡ xs ++ ys
+gap-list x [] ys r =
+    let f : ℕ → ℕ = λ i. getD (x ∷ ys ++ r) i 0 in
     let size = length-append ys r in
-    table-cong (length ys) (gap 0 f) (λ i. getD (ys ++ r) i d) (λ i _. gap-from 0 f i (omega arith) ∙ ap (λ (k : ℕ). getD (x ∷ ys ++ r) k d) (add-one i))
-    ∙ table-take (length ys) (ys ++ r) d (omega arith) ∙ take-append-seam ys r
-gap-list d x (z ∷ xs) ys r =
-    let f : ℕ → _ = λ i. getD (z ∷ xs ++ x ∷ ys ++ r) i d in
-    let g : ℕ → _ = λ i. getD (xs ++ x ∷ ys ++ r) i d in
+    table-cong (length ys) (gap 0 f) (λ i. getD (ys ++ r) i 0) (λ i _. gap-from 0 f i (omega arith) ∙ ap (λ (k : ℕ). getD (x ∷ ys ++ r) k 0) (add-one i))
+    ∙ table-take (length ys) (ys ++ r) 0 (omega arith) ∙ take-append-seam ys r
+gap-list x (z ∷ xs) ys r =
+    let f : ℕ → ℕ = λ i. getD (z ∷ xs ++ x ∷ ys ++ r) i 0 in
+    let g : ℕ → ℕ = λ i. getD (xs ++ x ∷ ys ++ r) i 0 in
     let n : ℕ = length xs in
     let at : (i : ℕ) → gap (suc n) f (suc i) ≡ gap n g i = λ i. test (ltb i n)
     (λ e. let h = ltb-true i n e in gap-below (suc n) f (suc i) (omega arith) ∙ sym (gap-below n g i h))
     (λ e. let h = ltb-false i n e in
-    gap-from (suc n) f (suc i) (omega arith) ∙ ap (λ (k : ℕ). getD (z ∷ xs ++ x ∷ ys ++ r) k d) (suc-add i 1) ∙ sym (gap-from n g i h)) in
-    let rest : table (length (xs ++ ys)) (λ i. gap (suc n) f (suc i)) ≡ xs ++ ys = table-cong (length (xs ++ ys)) (λ i. gap (suc n) f (suc i)) (gap n g) (λ i _. at i) ∙ gap-list d x xs ys r in
+    gap-from (suc n) f (suc i) (omega arith) ∙ ap (λ (k : ℕ). getD (z ∷ xs ++ x ∷ ys ++ r) k 0) (suc-add i 1) ∙ sym (gap-from n g i h)) in
+    let rest : table (length (xs ++ ys)) (λ i. gap (suc n) f (suc i)) ≡ xs ++ ys = table-cong (length (xs ++ ys)) (λ i. gap (suc n) f (suc i)) (gap n g) (λ i _. at i) ∙ gap-list x xs ys r in
     λ i. gap-below (suc n) f 0 (omega arith) i ∷ rest i
 
--- the array closed up at the place of l is that of the other lines
-pub without-line : (l : LiveLine) (xs ys : List LiveLine) → closedUp (length (xs ++ l ∷ ys)) (length xs) (firingsOf (xs ++ l ∷ ys)) ≡ firingsOf (xs ++ ys)
-unfolding closedUp
-without-line l xs ys =
-    let ls : List LiveLine = xs ++ l ∷ ys in
-    let live : length ls - 1 ≡ length (xs ++ ys) = (let b = length-append xs ys in let c = length-append xs (l ∷ ys) in omega arith) in
-    let r : List Firing = replicate (maxLive - length ls) noFiring in
-    let fs : firingsOf ls ≡ (map firingOf xs ++ firingOf l ∷ map firingOf ys) ++ r = ap (λ (k : List Firing). k ++ r) (map-append firingOf xs (l ∷ ys)) in
-    let size : length (xs ++ ys) ≡ length (map firingOf xs ++ map firingOf ys) =
-    sym (ap length (sym (map-append firingOf xs ys)) ∙ length-map (xs ++ ys) firingOf) in
-    let left : table (length ls - 1) (gap (length xs) (λ i. getD (firingsOf ls) i past)) ≡ map firingOf (xs ++ ys) =
-    ap (λ (n : ℕ). table n (gap (length xs) (λ i. getD (firingsOf ls) i past))) (live ∙ size)
-    ∙ ap (λ (k : List Firing). table (length (map firingOf xs ++ map firingOf ys)) (gap (length xs) (λ i. getD k i past))) fs
-    ∙ ap (λ (n : ℕ). table (length (map firingOf xs ++ map firingOf ys)) (gap n (λ i. getD ((map firingOf xs ++ firingOf l ∷ map firingOf ys) ++ r) i past))) (sym (length-map xs firingOf))
-    ∙ gap-list past (firingOf l) (map firingOf xs) (map firingOf ys) r ∙ sym (map-append firingOf xs ys) in
-    λ i. left i ++ replicate (maxLive - live i) noFiring
+-- an array closed up at the place of x holds the other numbers
+padded-less : (N x : ℕ) (xs ys : List ℕ) → length (xs ++ x ∷ ys) ≤ N → closed (length (xs ++ x ∷ ys)) (length xs) (padded N (xs ++ x ∷ ys)) ≡ padded N (xs ++ ys)
+padded-less N x xs ys h =
+    let l : List ℕ = xs ++ x ∷ ys in
+    let r : List ℕ = replicate (N - length l) 0 in
+    let a = length-append xs ys in
+    let b = length-append xs (x ∷ ys) in
+    let left : length l - 1 ≡ length (xs ++ ys) = omega arith in
+    let front : table (length l - 1) (gap (length xs) (λ i. getD (padded N l) i 0)) ≡ xs ++ ys =
+    ap (λ (n : ℕ). table n (gap (length xs) (λ i. getD (l ++ r) i 0))) left
+    ∙ gap-list x xs ys r in
+    let back : 0 ∷ drop (length l) (padded N l) ≡ replicate (N - length (xs ++ ys)) 0 =
+    ap (λ (k : List ℕ). 0 ∷ k) (drop-at l r (length l) refl) ∙ (let e : suc (N - length l) ≡ N - length (xs ++ ys) = omega arith in ap (λ (n : ℕ). replicate n 0) e) in
+    λ i. front i ++ back i
+
+module _ (g : LiveLine → ℕ) (l : LiveLine) (xs ys : List LiveLine) where
+  array-less : length (xs ++ l ∷ ys) ≤ maxLive → closed (length (xs ++ l ∷ ys)) (length xs) (padded maxLive (map g (xs ++ l ∷ ys))) ≡ padded maxLive (map g (xs ++ ys))
+  array-less h =
+      let e : map g (xs ++ l ∷ ys) ≡ map g xs ++ g l ∷ map g ys = map-append g xs (l ∷ ys) in
+      let n : length (xs ++ l ∷ ys) ≡ length (map g xs ++ g l ∷ map g ys) = sym (length-map (xs ++ l ∷ ys) g) ∙ ap length e in
+      let k : length xs ≡ length (map g xs) = sym (length-map xs g) in
+      (λ i. closed (n i) (k i) (padded maxLive (e i))) ∙ padded-less maxLive (g l) (map g xs) (map g ys) (omega arith) ∙ ap (padded maxLive) (sym (map-append g xs ys))
+
+-- the arrays closed up at the place of l are those of the other lines
+pub without-line : (l : LiveLine) (xs ys : List LiveLine) → length (xs ++ l ∷ ys) ≤ maxLive → closedUp (length xs) (firingsOf (xs ++ l ∷ ys)) ≡ firingsOf (xs ++ ys)
+without-line l xs ys h =
+    let live : length (xs ++ l ∷ ys) - 1 ≡ length (xs ++ ys) = (let b = length-append xs ys in let c = length-append xs (l ∷ ys) in omega arith) in
+    let a = array-less (λ (x : LiveLine). x .transition .0) l xs ys h in
+    let b = array-less (λ (x : LiveLine). x .key .0) l xs ys h in
+    let c = array-less (λ (x : LiveLine). packed (x .moved)) l xs ys h in
+    λ i. lying (live i) (a i) (b i) (c i)

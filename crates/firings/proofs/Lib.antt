@@ -1,7 +1,6 @@
--- Laws of live firings in an array.
-pub mod Lists
-pub mod Rest
-pub mod Same
+-- Laws of live firings in arrays.
+pub mod Loops
+pub mod Search
 pub mod Changes
 pub mod Laid
-pub mod Search
+pub mod Built

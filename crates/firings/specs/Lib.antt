@@ -1,4 +1,4 @@
--- Live firings in an array: the lines that they hold, their form, their keys.
+-- Live firings in arrays: the lines that they hold, their form, their keys.
 pub mod Lines
-pub mod Form
 pub mod Search
+pub mod Form

@@ -1,39 +1,58 @@
 -- The live firings of a record (01, commands, record, tally) and the lines of a journal, each as the other has it.
--- Definitions only. n is the number of bases; the first k entries of an array are live.
-use mathlib.Core.Bool.{false}
-use mathlib.Core.List.{List, [], _++_, map}
+-- Definitions only. n is the number of bases.
+use mathlib.Core.List.{List, _∷_, _++_, map}
 use Prim.Native.Nat.{ℕ, _-_}
-use lib.ListN.{length, getD, take, replicate}
-use Rattle.net.specs.Limits.{maxBases, maxLive}
+use lib.ListN.{length, getD, drop}
+use Rattle.net.specs.Limits.{maxLive}
 use Rattle.net.specs.Tests.{table}
-use Rattle.net.specs.Journal.{LiveLine, transition, key}
+use Rattle.net.specs.Journal.{LiveLine, transition, key, lineKeys}
+use Rattle.words.specs.Sets.{setOf, packed}
 use Rattle.marking.specs.Shift.{gap}
-use Rattle.marking.specs.Form.{flags}
+use Rattle.marking.specs.Form.{padded}
 use Rattle.firings.specs.declared.Firing.{Firing}
+use Rattle.firings.specs.declared.Firings.{Firings}
 
--- what reading past the end of an array of firings gives
-abbrev pub past : Firing
-past = record { transition = 0; key = key 0; moved = [] }
+-- live firings that lie in lent arrays, as the struct that holds them
+abbrev pub lying : ℕ → List ℕ → List ℕ → List ℕ → Firings
+lying live transitions keys moved = record { live = live; transitions = transitions; keys = keys; moved = moved }
+
+-- the firing at i
+abbrev pub firingAt : List ℕ → List ℕ → List ℕ → ℕ → Firing
+firingAt transitions keys moved i = record { transition = getD transitions i 0; key = key (getD keys i 0); moved = getD moved i 0 }
 
 -- a firing as a line
 abbrev pub asLine : ℕ → Firing → LiveLine
-asLine n f = record { transition = transition (f .transition); key = f .key; moved = take n (f .moved) }
+asLine n f = record { transition = transition (f .transition); key = f .key; moved = setOf n (f .moved) }
 
-abbrev pub linesIn : ℕ → ℕ → List Firing → List LiveLine
-linesIn n k fs = table k (λ i. asLine n (getD fs i past))
+-- the lines that the live firings are
+abbrev pub linesIn : ℕ → Firings → List LiveLine
+linesIn n f = table (f .live) (λ i. asLine n (firingAt (f .transitions) (f .keys) (f .moved) i))
 
--- an unused entry
-abbrev pub noFiring : Firing
-noFiring = record { transition = 0; key = key 0; moved = replicate maxBases false }
+-- the steps and the moved sets of lines, as the arrays keep them
+abbrev pub stepsOf : List LiveLine → List ℕ
+stepsOf ls = map (λ (l : LiveLine). l .transition .0) ls
 
--- a line as a firing
-abbrev pub firingOf : LiveLine → Firing
-firingOf l = record { transition = l .transition .0; key = l .key; moved = flags (l .moved) }
+abbrev pub setsOf : List LiveLine → List ℕ
+setsOf ls = map (λ (l : LiveLine). packed (l .moved)) ls
 
--- lines as an array: the unused entries after them hold 0
-abbrev pub firingsOf : List LiveLine → List Firing
-firingsOf ls = map firingOf ls ++ replicate (maxLive - length ls) noFiring
+-- lines as arrays: the unused entries after them hold 0
+abbrev pub firingsOf : List LiveLine → Firings
+firingsOf ls = record {
+  live = length ls;
+  transitions = padded maxLive (stepsOf ls);
+  keys = padded maxLive (lineKeys ls);
+  moved = padded maxLive (setsOf ls);
+}
 
--- The array of k live firings without the one at i: the later ones close up, and the entry that this frees holds 0.
-unfoldable pub closedUp : ℕ → ℕ → List Firing → List Firing
-closedUp k i fs = table (k - 1) (gap i (λ j. getD fs j past)) ++ replicate (maxLive - (k - 1)) noFiring
+-- The first k numbers of an array without the one at i: the later ones close up, and the entry that this frees holds 0.
+abbrev pub closed : ℕ → ℕ → List ℕ → List ℕ
+closed k i l = table (k - 1) (gap i (λ j. getD l j 0)) ++ (0 ∷ drop k l)
+
+-- the live firings without the one at i
+abbrev pub closedUp : ℕ → Firings → Firings
+closedUp i f = record {
+  live = f .live - 1;
+  transitions = closed (f .live) i (f .transitions);
+  keys = closed (f .live) i (f .keys);
+  moved = closed (f .live) i (f .moved);
+}

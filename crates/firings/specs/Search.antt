@@ -1,25 +1,29 @@
 -- The live firings searched: the last key, the firing of a key, and whether a later one was built on it.
 -- Definitions only. The first k entries of an array are live.
-use mathlib.Core.Bool.{Bool, _&&_}
+use mathlib.Core.Bool.{Bool}
 use mathlib.Core.List.{List, [], _∷_}
-use Prim.Native.Nat.{ℕ, suc, _-_}
-use lib.Dec.{eqb, ltb}
+use Prim.Native.Nat.{ℕ, suc, _+_, _-_}
+use lib.Dec.{eqb}
 use lib.ListN.{getD}
-use Rattle.net.specs.Tests.{pick, any}
+use Rattle.net.specs.Limits.{maxBases}
+use Rattle.net.specs.Tests.{pick, any, table}
 use Rattle.net.specs.Journal.{key, common}
 use Rattle.net.specs.declared.Key.{Key}
-use Rattle.firings.specs.Lines.{past}
-use Rattle.firings.specs.declared.Firing.{Firing}
+use Rattle.words.specs.Sets.{setOf}
+
+-- the live keys
+abbrev pub keysIn : ℕ → List ℕ → List ℕ
+keysIn k keys = table k (λ i. getD keys i 0)
 
 -- the key of the last live firing; 0 where none is live
-abbrev pub lastKey : ℕ → List Firing → Key
-lastKey k fs = pick (eqb k 0) (key 0) (getD fs (k - 1) past .key)
+abbrev pub lastKey : ℕ → List ℕ → Key
+lastKey k keys = pick (eqb k 0) (key 0) (key (getD keys (k - 1) 0))
 
 -- where the first of that key stands; the length of the list where there is none
 abbrev pub indexOf : Key → List ℕ → ℕ
 indexOf k [] = 0
 indexOf k (x ∷ xs) = pick (eqb x (k .0)) 0 (suc (indexOf k xs))
 
--- a firing of higher key moved a base that f moved
-abbrev pub builtOnIn : Firing → List Firing → Bool
-builtOnIn f fs = any (λ (g : Firing). ltb (f .key .0) (g .key .0) && common (f .moved) (g .moved)) fs
+-- a live firing after the one at i moved a base that it moved
+abbrev pub builtOnIn : ℕ → List ℕ → ℕ → Bool
+builtOnIn k moved i = any (λ j. common (setOf maxBases (getD moved i 0)) (setOf maxBases (getD moved (i + 1 + j) 0))) (table (k - (i + 1)) (λ j. j))

@@ -1,30 +1,33 @@
-// The live firings of a session record, in an array by value: one taken out, their form, their keys.
+// The live firings of a session record, in three lent arrays of numbers: one taken out, their form, their keys.
 // Entries after the live ones hold 0.
 ghost use mathlib.Core.Path.{_≡_};
-ghost use mathlib.Core.Bool.{true, Bool·beq};
-ghost use mathlib.Core.List.{[], _∷_};
-ghost use Prim.Native.Nat.{_+_, _<_, _≤_};
+ghost use mathlib.Core.Bool.{Bool, true};
+ghost use mathlib.Core.List.{List};
+ghost use Prim.Native.Nat.{_+_, _-_, _<_, _≤_};
 ghost use lib.Dec.{ltb};
-ghost use lib.ListN.{take, getD, length};
+ghost use lib.ListN.{length, getD};
 ghost use Rattle.net.specs.Limits.{maxBases, maxLive};
-ghost use Rattle.net.specs.Journal.{transition};
-ghost use Rattle.net.specs.Tests.{pick, sameList};
-ghost use Rattle.firings.specs.Lines.{past, noFiring, closedUp};
-ghost use Rattle.firings.specs.Search.{lastKey, indexOf, builtOnIn};
-ghost use Rattle.firings.specs.Form.{isNoFiring, usedInForm, unusedInForm, AsLines, Unused, liveKeys, climbs};
-use marking::shares;
-use marking_form::clear_from;
+ghost use Rattle.net.specs.Journal.{transition, common};
+ghost use Rattle.net.specs.Tests.{pick, any, count, table};
+ghost use Rattle.words.specs.Sets.{setOf};
+ghost use Rattle.marking.specs.Form.{zeroFrom};
+ghost use Rattle.firings.specs.Lines.{lying, firingAt, linesIn, firingsOf, closed, closedUp};
+ghost use Rattle.firings.specs.Search.{keysIn, lastKey, indexOf, builtOnIn};
+ghost use Rattle.firings.specs.Form.{allWithin, firingsInForm, climbs};
+use marking_form::zero_bytes;
 use net::Key;
-use net::MAX_BASES;
 use net::MAX_KEY;
 use net::MAX_LIVE;
 use net::Transition;
+use words::low_bits;
+use words::shares;
+use words::union;
 
-// A live firing. The transition's number is kept in one byte; `transition_of` is what reads it.
+// A live firing. The transition's number is kept in one byte; `transition_of` is what reads it. The moved bases are a word.
 pub struct Firing {
     pub transition: u8,
     pub key: Key,
-    pub moved: [bool; MAX_BASES],
+    pub moved: u64,
 }
 
 impl Firing {
@@ -35,97 +38,164 @@ impl Firing {
     }
 }
 
-// An unused entry.
-pub fn no_firing() -> Firing
-    ensures { λ r. ⌜ r ≡ noFiring ⌝ }
+// The live firings as a record keeps them: the firing at i is the numbers at i.
+pub struct Firings {
+    pub live: usize,
+    pub transitions: [u8; MAX_LIVE],
+    pub keys: [u16; MAX_LIVE],
+    pub moved: [u64; MAX_LIVE],
+}
+
+// The firing at i. The callers ask below the limit.
+pub fn firing_at<'a>(
+    transitions: &'a [u8; MAX_LIVE],
+    keys: &'a [u16; MAX_LIVE],
+    moved: &'a [u64; MAX_LIVE],
+    i: usize,
+) -> Firing
+    requires { ⌜ i < maxLive ⌝ }
+    ensures { λ r. ⌜ r ≡ firingAt (now (transitions .entry)) (now (keys .entry)) (now (moved .entry)) i ⌝ }
 {
     Firing {
-        transition: 0,
-        key: Key(0),
-        moved: [false; MAX_BASES],
+        transition: transitions[i],
+        key: Key(keys[i]),
+        moved: moved[i],
     }
 }
 
-// The entry that comes to stand at j when the one at i is gone.
-fn past_gap(i: usize, j: usize) -> usize
-    requires { ⌜ j < maxLive ⌝ }
-    ensures { λ r. ⌜ r ≡ pick (ltb j i) j (j + 1) ⌝ }
-    ensures { λ r. ⌜ r ≤ j + 1 ⌝ }
+// The number at k is gone from the first n: the later ones close up, and the entry that this frees holds 0.
+// `close_up` asks it of the three arrays of the live firings, here and in the next two.
+fn remove_transition(a: &mut [u8; MAX_LIVE], n: usize, k: usize)
+    requires { ⌜ (k < n) × (n ≤ length (now a)) × (n ≤ maxLive) ⌝ }
+    ensures { λ _. ⌜ now (a .exit) ≡ closed n k (now (a .entry)) ⌝ }
 {
-    if j < i { j } else { j + 1 }
-}
-
-// The firings without the live one at i: the later ones close up. The callers have found i among the live ones.
-pub fn closed_up(firings: [Firing; MAX_LIVE], live: usize, i: usize) -> [Firing; MAX_LIVE]
-    requires { ⌜ (i < live) × (live ≤ maxLive) ⌝ }
-    ensures { λ r. ⌜ r ≡ closedUp live i firings ⌝ }
-{
-    let left = live - 1;
-    let mut next = [no_firing(); MAX_LIVE];
-    let mut j = 0;
-    while j < left {
-        let from = past_gap(i, j);
-        let f = firings[from];
-        next[j] = f;
+    let last = n - 1;
+    let mut j = k;
+    while j < last {
+        a[j] = a[j + 1];
         j += 1;
     }
-    next
+    a[last] = 0u8;
 }
 
-// Whether an entry is unused.
-fn is_no_firing(f: Firing) -> bool
-    ensures { λ r. ⌜ r ≡ isNoFiring f ⌝ }
-    ensures { λ r. ⌜ (r ≡ true → f ≡ noFiring) ⌝ }
+fn remove_key(a: &mut [u16; MAX_LIVE], n: usize, k: usize)
+    requires { ⌜ (k < n) × (n ≤ length (now a)) × (n ≤ maxLive) ⌝ }
+    ensures { λ _. ⌜ now (a .exit) ≡ closed n k (now (a .entry)) ⌝ }
 {
-    let moved = f.moved;
-    let unset = clear_from(0, moved);
-    (f.transition == 0) & ((f.key.0 == 0) & unset)
+    let last = n - 1;
+    let mut j = k;
+    while j < last {
+        a[j] = a[j + 1];
+        j += 1;
+    }
+    a[last] = 0u16;
 }
 
-// No flag of a live firing is set from n on; such a firing is its line as a firing. The callers have seen that there are
-// no more than the limit, here and below.
-pub fn used_in_form(firings: [Firing; MAX_LIVE], live: usize, n: usize) -> bool
+fn remove_moved(a: &mut [u64; MAX_LIVE], n: usize, k: usize)
+    requires { ⌜ (k < n) × (n ≤ length (now a)) × (n ≤ maxLive) ⌝ }
+    ensures { λ _. ⌜ now (a .exit) ≡ closed n k (now (a .entry)) ⌝ }
+{
+    let last = n - 1;
+    let mut j = k;
+    while j < last {
+        a[j] = a[j + 1];
+        j += 1;
+    }
+    a[last] = 0u64;
+}
+
+// The live firing at i is gone: the later ones close up. The callers have found i among the live ones of a sound record,
+// whose arrays have their full length.
+pub fn close_up(
+    transitions: &mut [u8; MAX_LIVE],
+    keys: &mut [u16; MAX_LIVE],
+    moved: &mut [u64; MAX_LIVE],
+    live: usize,
+    i: usize,
+)
+    requires { ⌜ (i < live) × (live ≤ maxLive) ⌝ }
+    requires { ⌜ (length (now transitions) ≡ maxLive) × (length (now keys) ≡ maxLive) × (length (now moved) ≡ maxLive) ⌝ }
+    ensures { λ _. ⌜
+        lying (live - 1) (now (transitions .exit)) (now (keys .exit)) (now (moved .exit))
+        ≡ closedUp i (lying live (now (transitions .entry)) (now (keys .entry)) (now (moved .entry))) ⌝ }
+{
+    remove_transition(transitions, live, i);
+    remove_key(keys, live, i);
+    remove_moved(moved, live, i);
+}
+
+// Whether a is nothing but zeros from k on. Every entry is looked at: no early exit, here and below.
+fn zero_keys(a: &[u16], k: usize) -> bool
+    ensures { λ r. ⌜ r ≡ zeroFrom k (now (a .entry)) ⌝ }
+{
+    let mut zero = true;
+    let mut i = k;
+    while i < a.len() {
+        zero = zero & (a[i] == 0);
+        i += 1;
+    }
+    zero
+}
+
+fn zero_words(a: &[u64], k: usize) -> bool
+    ensures { λ r. ⌜ r ≡ zeroFrom k (now (a .entry)) ⌝ }
+{
+    let mut zero = true;
+    let mut i = k;
+    while i < a.len() {
+        zero = zero & (a[i] == 0);
+        i += 1;
+    }
+    zero
+}
+
+// No set of a live firing is above `top`. The callers have seen that there are no more firings than the limit, here and below.
+fn all_within(moved: &[u64; MAX_LIVE], live: usize, top: u64) -> bool
     requires { ⌜ live ≤ maxLive ⌝ }
-    ensures { λ r. ⌜ r ≡ usedInForm n live firings ⌝ }
-    ensures { λ r. ⌜ (r ≡ true → n ≤ maxBases → AsLines n live firings) ⌝ }
+    ensures { λ r. ⌜ r ≡ allWithin top (table live (λ i. getD (now (moved .entry)) i 0)) ⌝ }
 {
     let mut ok = true;
     let mut i = 0;
     while i < live {
-        let f = firings[i];
-        let moved = f.moved;
-        ok = ok & clear_from(n, moved);
+        ok = ok & (moved[i] <= top);
         i += 1;
     }
     ok
 }
 
-// Every entry after the live firings is unused.
-pub fn unused_in_form(firings: [Firing; MAX_LIVE], live: usize) -> bool
-    ensures { λ r. ⌜ r ≡ unusedInForm live firings ⌝ }
-    ensures { λ r. ⌜ (r ≡ true → Unused live maxLive firings) × (length firings ≡ maxLive) ⌝ }
+// Whether live firings are in their form: no base from n on is in a moved set, and unused entries are 0. Those in their form
+// are laid out as the lines that they hold are. The callers have an accepted sheet of n bases.
+pub fn firings_in_form<'a>(
+    n: usize,
+    live: usize,
+    transitions: &'a [u8; MAX_LIVE],
+    keys: &'a [u16; MAX_LIVE],
+    moved: &'a [u64; MAX_LIVE],
+) -> bool
+    requires { ⌜ (n ≤ maxBases) × (live ≤ maxLive) ⌝ }
+    ensures { λ r. ⌜ r ≡ firingsInForm n (lying live (now (transitions .entry)) (now (keys .entry)) (now (moved .entry))) ⌝ }
+    ensures { λ r. ⌜
+        (r ≡ true → lying live (now (transitions .entry)) (now (keys .entry)) (now (moved .entry))
+        ≡ firingsOf (linesIn n (lying live (now (transitions .entry)) (now (keys .entry)) (now (moved .entry))))) ⌝ }
 {
-    let mut ok = true;
-    let mut i = live;
-    while i < MAX_LIVE {
-        let f = firings[i];
-        ok = ok & is_no_firing(f);
-        i += 1;
-    }
-    ok
+    let top = low_bits(n);
+    let used = all_within(moved, live, top);
+    let steps = zero_bytes(transitions, live);
+    let serials = zero_keys(keys, live);
+    let sets = zero_words(moved, live);
+    used & (steps & (serials & sets))
 }
 
 // The live keys strictly ascend, from 1 to 65,535.
-pub fn keys_climb(firings: [Firing; MAX_LIVE], live: usize) -> bool
+pub fn keys_climb(keys: &[u16; MAX_LIVE], live: usize) -> bool
     requires { ⌜ live ≤ maxLive ⌝ }
-    ensures { λ r. ⌜ r ≡ climbs 0 (liveKeys live firings) ⌝ }
+    ensures { λ r. ⌜ r ≡ climbs 0 (keysIn live (now (keys .entry))) ⌝ }
 {
     let mut ok = true;
     let mut last: u16 = 0;
     let mut i = 0;
     while i < live {
-        let f = firings[i];
-        let k = f.key.0;
+        let k = keys[i];
         ok = ok & ((last < k) & (k <= MAX_KEY));
         last = k;
         i += 1;
@@ -133,69 +203,75 @@ pub fn keys_climb(firings: [Firing; MAX_LIVE], live: usize) -> bool
     ok
 }
 
-// The first n flags of two sets are the same. Every flag is looked at: no early exit.
-pub fn same_flags(a: [bool; MAX_BASES], b: [bool; MAX_BASES], n: usize) -> bool
-    requires { ⌜ n ≤ maxBases ⌝ }
-    ensures { λ r. ⌜ r ≡ sameList Bool·beq (take n a) (take n b) ⌝ }
-{
-    let mut ok = true;
-    let mut i = 0;
-    while i < n {
-        ok = ok & (a[i] == b[i]);
-        i += 1;
-    }
-    ok
-}
-
 // The key of the last live firing; 0 where none is live.
-pub fn last_key(firings: [Firing; MAX_LIVE], live: usize) -> Key
+pub fn last_key(keys: &[u16; MAX_LIVE], live: usize) -> Key
     requires { ⌜ live ≤ maxLive ⌝ }
-    ensures { λ r. ⌜ r ≡ lastKey live firings ⌝ }
+    ensures { λ r. ⌜ r ≡ lastKey live (now (keys .entry)) ⌝ }
 {
     if live == 0 {
         return Key(0);
     }
-    let f = firings[live - 1];
-    f.key
+    Key(keys[live - 1])
 }
 
-// Where the live firing of that key stands; `live` where there is none.
-pub fn index_of(firings: [Firing; MAX_LIVE], live: usize, key: Key) -> usize
-    requires { ⌜ live ≤ maxLive ⌝ }
-    ensures { λ r. ⌜ r ≡ indexOf key (liveKeys live firings) ⌝ }
+// 1 where the one is less than the other, else 0.
+fn one_if_less(a: u16, b: u16) -> u16
+    ensures { λ r. ⌜ (r ≡ pick (ltb a b) 1 0) × (r ≤ 1) ⌝ }
 {
+    if a < b { 1 } else { 0 }
+}
+
+// How many live keys are less. Every one is looked at, and the count is as wide as a key: so the compiler takes many at a time.
+fn lower_keys(keys: &[u16; MAX_LIVE], live: usize, key: u16) -> u16
+    requires { ⌜ live ≤ maxLive ⌝ }
+    ensures { λ r. ⌜ r ≡ count (λ x. ltb x key) (keysIn live (now (keys .entry))) ⌝ }
+{
+    let mut n: u16 = 0;
     let mut i = 0;
     while i < live {
-        let f = firings[i];
-        if f.key.0 == key.0 {
-            return i;
-        }
+        n = n + one_if_less(keys[i], key);
         i += 1;
     }
-    live
+    n
 }
 
-// Whether g has a higher key than f and moved a base that f moved.
-fn blocks(g: Firing, f: Firing) -> bool
-    ensures { λ r. ⌜ r ≡ builtOnIn f (g ∷ []) ⌝ }
+// Where the live firing of that key stands; `live` where there is none. The keys of a sound record ascend: so a key that is
+// live stands behind as many as are less.
+pub fn index_of(keys: &[u16; MAX_LIVE], live: usize, key: Key) -> usize
+    requires { ⌜ (live ≤ maxLive) × (climbs 0 (keysIn live (now keys)) ≡ true) ⌝ }
+    ensures { λ r. ⌜ r ≡ indexOf key (keysIn live (now (keys .entry))) ⌝ }
 {
-    let a = f.moved;
-    let b = g.moved;
-    (f.key.0 < g.key.0) & shares(a, b)
+    let n = lower_keys(keys, live, key.0) as usize;
+    if live <= n {
+        return live;
+    }
+    if keys[n] != key.0 {
+        return live;
+    }
+    n
 }
 
-// Whether a live firing of higher key moved a base that the live firing at i moved (refusal 20).
-pub fn built_on(firings: [Firing; MAX_LIVE], live: usize, i: usize) -> bool
-    requires { ⌜ (i < live) × (live ≤ maxLive) ⌝ }
-    ensures { λ r. ⌜ r ≡ builtOnIn (getD firings i past) (take live firings) ⌝ }
+// The bases that the live firings from `from` on moved.
+fn moved_from(moved: &[u64; MAX_LIVE], live: usize, from: usize) -> u64
+    requires { ⌜ (from ≤ live) × (live ≤ maxLive) ⌝ }
+    ensures { λ r. ⌜
+        ((m : List Bool) → common m (setOf maxBases r)
+        ≡ any (λ k. common m (setOf maxBases (getD (now (moved .entry)) (from + k) 0))) (table (live - from) (λ k. k))) ⌝ }
 {
-    let f = firings[i];
-    let mut found = false;
-    let mut j = 0;
+    let mut all: u64 = 0;
+    let mut j = from;
     while j < live {
-        let g = firings[j];
-        found = found | blocks(g, f);
+        all = union(all, moved[j]);
         j += 1;
     }
-    found
+    all
+}
+
+// Whether a live firing after the one at i moved a base that it moved (refusal 20: those after it have the higher keys).
+pub fn built_on(moved: &[u64; MAX_LIVE], live: usize, i: usize) -> bool
+    requires { ⌜ (i < live) × (live ≤ maxLive) ⌝ }
+    ensures { λ r. ⌜ r ≡ builtOnIn live (now (moved .entry)) i ⌝ }
+{
+    let later = moved_from(moved, live, i + 1);
+    shares(moved[i], later)
 }

@@ -1,3 +1,3 @@
 -- Laws that the proofs of this crate's functions cite, and the crates above.
-pub mod Firsts
 pub mod Sending
+pub mod Moving

@@ -18,11 +18,11 @@ use Rattle.net.proofs.Bonds.{bond-order}
 use Rattle.net.specs.Net.{Marking as NetMarking, bond, sameBond, lessBond, hasBond}
 use Rattle.bonds.specs.Ends.{ends, bondsIn, rankIn}
 use Rattle.bonds.proofs.Fill.{map-table}
+use Rattle.bonds.proofs.InPlace.{table-take}
 use Rattle.marking.specs.declared.Marking.{Marking}
 use Rattle.marking.specs.Shift.{slot, gap}
 use Rattle.marking.specs.Form.{padded, los, his, bondsOf, markingOf, withBonds, InOrder, laid, zeroFrom, inForm}
 use Rattle.marking.proofs.Padding.{zero-padded, take-padded, padded-zero}
-use Rattle.marking.proofs.InPlace.{table-take}
 use Rattle.marking.proofs.Shifts.{slot-map, gap-map, put-table, put-present, keep-table, keep-absent}
 
 -- ---- one bond more

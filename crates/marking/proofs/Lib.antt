@@ -1,6 +1,5 @@
 -- Laws that the proofs of this crate's functions cite, and the crates above.
 pub mod Padding
-pub mod InPlace
 pub mod Shifts
 pub mod Forms
 pub mod Lent

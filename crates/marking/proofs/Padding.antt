@@ -1,19 +1,18 @@
 -- Laws of lists with zeros after them: a loop that fills a list of zeros, and a list that is zero from k on.
 -- Assumes nothing.
 use mathlib.Core.Path.{_≡_, refl, sym, _∙_, ap}
-use mathlib.Core.Bool.{Bool, true, false, not}
+use mathlib.Core.Bool.{Bool, true}
 use mathlib.Core.List.{List, [], _∷_, _++_}
 use Prim.Native.Nat.{ℕ, zero, suc, _-_, _≤_}
 use native.Mathlib.Omega.{arith}
 use lib.Dec.{eqb}
 use lib.ListN.{length, take, drop, replicate, length-drop, length-append, length-replicate, take-append-drop}
 use lib.Seq.{length-take-le, take-at, drop-at}
-use borrow.Author.Tests.{eqb-true, not-true}
-use Rattle.net.specs.Limits.{maxBases}
+use borrow.Author.Tests.{eqb-true}
 use Rattle.net.specs.Tests.{all, table}
 use Rattle.net.proofs.Tests.{and-l, and-r}
 use Rattle.net.proofs.Tables.{length-table}
-use Rattle.marking.specs.Form.{padWith, padded, flags, zeroFrom, clearFrom}
+use Rattle.marking.specs.Form.{padWith, padded, zeroFrom}
 
 module _ {X : Type 0} where
   pub drop-replicate : (i n : ℕ) (x : X) → drop i (replicate n x) ≡ replicate (n - i) x
@@ -46,10 +45,6 @@ module _ {X : Type 0} (t : X → Bool) (d : X) (only : (x : X) → t x ≡ true 
 -- a list of n that is zero from k on
 pub zero-padded : (l : List ℕ) (k n : ℕ) → length l ≡ n → k ≤ n → zeroFrom k l ≡ true → l ≡ padded n (take k l)
 zero-padded = rest-padded (λ (x : ℕ). eqb x 0) 0 (λ x e. eqb-true x 0 e)
-
--- a set that has no base from k on
-pub clear-flags : (l : List Bool) (k : ℕ) → length l ≡ maxBases → k ≤ maxBases → clearFrom k l ≡ true → l ≡ flags (take k l)
-clear-flags l k s h z = rest-padded not false (λ x e. not-true x e) l k maxBases s h z
 
 pub length-padded : (l : List ℕ) (n : ℕ) → length l ≤ n → length (padded n l) ≡ n
 length-padded l n h = length-append l (replicate (n - length l) 0) ∙ rw (length-replicate {A = ℕ} (n - length l) 0) (omega arith)

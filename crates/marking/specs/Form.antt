@@ -1,7 +1,7 @@
 -- A marking as the struct that holds it (01, the record: places, couplings in ascending order, unused entries 0).
 -- Definitions only. n is the number of bases.
 use mathlib.Core.Path.{_≡_}
-use mathlib.Core.Bool.{Bool, false, not, _&&_}
+use mathlib.Core.Bool.{Bool, _&&_}
 use mathlib.Core.List.{List, _++_, map}
 use Prim.Native.Nat.{ℕ, _-_, _≤_}
 use lib.Dec.{eqb, leb}
@@ -22,10 +22,6 @@ module _ {X : Type 0} where
 -- with zeros after it
 abbrev pub padded : ℕ → List ℕ → List ℕ
 padded n l = padWith 0 n l
-
--- A set of bases as the flags that hold it: no base above is in it.
-abbrev pub flags : List Bool → List Bool
-flags l = padWith false maxBases l
 
 -- the first and the second ends
 abbrev pub los : List Bond → List ℕ
@@ -63,10 +59,6 @@ laid s = record {
 -- nothing but zeros from k on
 abbrev pub zeroFrom : ℕ → List ℕ → Bool
 zeroFrom k l = all (λ (x : ℕ). eqb x 0) (drop k l)
-
--- no base from k on is in the set
-abbrev pub clearFrom : ℕ → List Bool → Bool
-clearFrom k l = all not (drop k l)
 
 -- The form: the bonds fit, and unused entries are 0.
 abbrev pub inForm : ℕ → Marking → Bool

@@ -1,5 +1,5 @@
 // A marking: the places of the bases, and the bonds in ascending order; unused entries are 0.
-// Bonds go in and out where they lie, at their place in the order. Sets of bases are arrays of flags.
+// Bonds go in and out where they lie, at their place in the order.
 ghost use mathlib.Core.Path.{_≡_};
 ghost use mathlib.Core.Bool.{not};
 ghost use mathlib.Core.List.{_∷_, _++_};
@@ -9,13 +9,12 @@ ghost use Rattle.net.specs.Limits.{maxBonds};
 ghost use Rattle.net.specs.Tests.{keep, table};
 ghost use Rattle.net.specs.Sorted.{put};
 ghost use Rattle.net.specs.Net.{sameBond, lessBond};
-ghost use Rattle.net.specs.Journal.{common};
 ghost use Rattle.bonds.specs.Ends.{bondsIn};
 ghost use Rattle.marking.specs.Shift.{slot, gap};
 ghost use Rattle.marking.specs.Form.{withBonds, InOrder};
 ghost use Rattle.marking.specs.Held.{holdingBonds};
-use bonds::has_bond;
 use bonds::rank;
+use bonds::stands_at;
 use net::Base;
 use net::Bond;
 use net::MAX_BASES;
@@ -78,10 +77,10 @@ pub fn put_bond(
         ≡ withBonds (holdingBonds count (now (lo .entry)) (now (hi .entry)))
         (put sameBond lessBond b (bondsIn (now (lo .entry)) (now (hi .entry)) count)) ⌝ }
 {
-    if has_bond(lo, hi, count, b) {
+    let k = rank(lo, hi, count, b);
+    if stands_at(lo, hi, count, b, k) {
         return count;
     }
-    let k = rank(lo, hi, count, b);
     insert(lo, count, k, b.lo);
     insert(hi, count, k, b.hi);
     count + 1
@@ -101,25 +100,12 @@ pub fn take_bond(
         ≡ withBonds (holdingBonds count (now (lo .entry)) (now (hi .entry)))
         (keep (λ c. not (sameBond c b)) (bondsIn (now (lo .entry)) (now (hi .entry)) count)) ⌝ }
 {
-    let there = has_bond(lo, hi, count, b);
+    let k = rank(lo, hi, count, b);
+    let there = stands_at(lo, hi, count, b, k);
     if !there {
         return count;
     }
-    let k = rank(lo, hi, count, b);
     remove(lo, count, k);
     remove(hi, count, k);
     count - 1
-}
-
-// Whether two sets have a common base. Every flag is looked at: no early exit.
-pub fn shares(a: [bool; MAX_BASES], b: [bool; MAX_BASES]) -> bool
-    ensures { λ r. ⌜ r ≡ common a b ⌝ }
-{
-    let mut found = false;
-    let mut i = 0;
-    while i < MAX_BASES {
-        found = found | (a[i] & b[i]);
-        i += 1;
-    }
-    found
 }

@@ -4,7 +4,6 @@
 use case_tools::print::print_byte;
 use case_tools::print::print_tally;
 use case_tools::print::print_word;
-use firings::Firing;
 use marking::Marking;
 use net::MAX_BONDS;
 use net::MAX_LIVE;
@@ -67,20 +66,20 @@ fn print_bonds(m: Marking) {
     }
 }
 
-fn print_key(f: Firing) {
+fn print_key(key: u16) {
     io::write_all(1, b" ");
-    print_word(f.key.0);
+    print_word(key);
 }
 
 fn print_live(r: Record) {
     io::write_all(1, b", live");
-    let live = r.live;
-    let firings = r.firings;
+    let f = r.firings;
+    let live = f.live;
+    let keys = f.keys;
     let mut i: usize = 0;
     while i < MAX_LIVE {
         if i < live {
-            let f = firings[i];
-            print_key(f);
+            print_key(keys[i]);
         }
         i += 1;
     }

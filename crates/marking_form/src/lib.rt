@@ -1,5 +1,5 @@
 // The form of a marking (document 01, the record: unused entries hold 0) as a test, and whether two markings
-// are the same. Every entry is looked at: no early exit within an array.
+// are the same; each lies in lent arrays. Every entry is looked at: no early exit within an array.
 ghost use mathlib.Core.Path.{_≡_};
 ghost use mathlib.Core.Bool.{true};
 ghost use Prim.Native.Nat.{_≤_};
@@ -8,13 +8,15 @@ ghost use lib.ListN.{length, take};
 ghost use Rattle.net.specs.Limits.{maxBases, maxBonds};
 ghost use Rattle.net.specs.Tests.{sameList};
 ghost use Rattle.net.specs.History.{sameMarking};
-ghost use Rattle.marking.specs.Form.{markingOf, laid, flags, zeroFrom, clearFrom, inForm};
-use marking::Marking;
+ghost use Rattle.marking.specs.Form.{markingOf, laid, zeroFrom, inForm};
+ghost use Rattle.marking.specs.Held.{holding};
+use net::Base;
 use net::MAX_BASES;
 use net::MAX_BONDS;
+use net::Place;
 
 // Whether a is nothing but zeros from k on.
-fn zero_from(a: &[u8], k: usize) -> bool
+pub fn zero_bytes(a: &[u8], k: usize) -> bool
     ensures { λ r. ⌜ r ≡ zeroFrom k (now (a .entry)) ⌝ }
 {
     let mut zero = true;
@@ -28,16 +30,23 @@ fn zero_from(a: &[u8], k: usize) -> bool
 
 // Whether a marking of n bases is in its form: the bonds fit, and unused entries are 0. One in its form is laid out as
 // the marking that it holds is.
-pub fn in_form(n: usize, m: Marking) -> bool
-    ensures { λ r. ⌜ r ≡ inForm n m ⌝ }
-    ensures { λ r. ⌜ (r ≡ true → n ≤ maxBases → m ≡ laid (markingOf n m)) ⌝ }
+pub fn in_form<'a>(
+    n: usize,
+    places: &'a [Place; MAX_BASES],
+    count: usize,
+    lo: &'a [Base; MAX_BONDS],
+    hi: &'a [Base; MAX_BONDS],
+) -> bool
+    ensures { λ r. ⌜ r ≡ inForm n (holding (now (places .entry)) count (now (lo .entry)) (now (hi .entry))) ⌝ }
+    ensures { λ r. ⌜
+        (r ≡ true → n ≤ maxBases → holding (now (places .entry)) count (now (lo .entry)) (now (hi .entry))
+        ≡ laid (markingOf n (holding (now (places .entry)) count (now (lo .entry)) (now (hi .entry))))) ⌝ }
 {
-    let count = m.count;
     let fits = count <= MAX_BONDS;
-    let lo = zero_from(&m.lo, count);
-    let hi = zero_from(&m.hi, count);
-    let rest = zero_from(&m.places, n);
-    fits & (lo & (hi & rest))
+    let low = zero_bytes(lo, count);
+    let high = zero_bytes(hi, count);
+    let rest = zero_bytes(places, n);
+    fits & (low & (high & rest))
 }
 
 // Whether a and b begin with the same n bytes.
@@ -55,30 +64,27 @@ fn same_bytes<'a>(a: &'a [u8], b: &'a [u8], n: usize) -> bool
 }
 
 // Whether two markings of n bases are the same. Callers know that the bonds fit and n is within its limit.
-pub fn same_marking(n: usize, a: Marking, b: Marking) -> bool
-    requires { ⌜ (n ≤ maxBases) × (a .count ≤ maxBonds) × (b .count ≤ maxBonds) ⌝ }
-    ensures { λ r. ⌜ r ≡ sameMarking (markingOf n a) (markingOf n b) ⌝ }
+pub fn same_marking<'a>(
+    n: usize,
+    places: &'a [Place; MAX_BASES],
+    count: usize,
+    lo: &'a [Base; MAX_BONDS],
+    hi: &'a [Base; MAX_BONDS],
+    placed: &'a [Place; MAX_BASES],
+    held: usize,
+    los: &'a [Base; MAX_BONDS],
+    his: &'a [Base; MAX_BONDS],
+) -> bool
+    requires { ⌜ (n ≤ maxBases) × (count ≤ maxBonds) × (held ≤ maxBonds) ⌝ }
+    ensures { λ r. ⌜
+        r ≡ sameMarking (markingOf n (holding (now (places .entry)) count (now (lo .entry)) (now (hi .entry))))
+        (markingOf n (holding (now (placed .entry)) held (now (los .entry)) (now (his .entry)))) ⌝ }
 {
-    let count = a.count;
-    if count != b.count {
+    if count != held {
         return false;
     }
-    let places = same_bytes(&a.places, &b.places, n);
-    let lo = same_bytes(&a.lo, &b.lo, count);
-    let hi = same_bytes(&a.hi, &b.hi, count);
-    places & (lo & hi)
-}
-
-// Whether no base from k on is in the set. Such a set is the flags of its first k.
-pub fn clear_from(k: usize, set: [bool; MAX_BASES]) -> bool
-    ensures { λ r. ⌜ r ≡ clearFrom k set ⌝ }
-    ensures { λ r. ⌜ (r ≡ true → k ≤ maxBases → set ≡ flags (take k set)) ⌝ }
-{
-    let mut clear = true;
-    let mut i = k;
-    while i < MAX_BASES {
-        clear = clear & !set[i];
-        i += 1;
-    }
-    clear
+    let all = same_bytes(places, placed, n);
+    let low = same_bytes(lo, los, count);
+    let high = same_bytes(hi, his, count);
+    all & (low & high)
 }

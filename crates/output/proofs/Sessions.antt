@@ -110,7 +110,7 @@ module _ (s b : List ℕ) (accepted : clear (sheetChecks s) ≡ true) where
   many = run-length s (commandsIn b) (freshOf s) zeroTally ∙ length-table (howMany b) (commandAt b)
 
   -- what the closing lines ask of the record
-  pub few-live : ran .session .live ≤ maxLive
+  pub few-live : ran .session .firings .live ≤ maxLive
   few-live = live-few s (ran .session) (ran-sound s b (freshOf s) zeroTally (fresh-sound s accepted))
 
   pub few-bonds : ran .session .marking .count ≤ maxBonds
@@ -166,8 +166,8 @@ module _ (s b : List ℕ) (r : Record) (words₀ values₀ : List ℕ) (session 
   pub values-low : LowValues words values (howMany b)
   values-low = rw (given .words-are, given .values-are) (low-stored s b (G .accepted) words₀ values₀ (G .room) (G .space))
 
-  pub live-low : session .live ≤ maxLive
-  live-low = subst (λ (x : Record). x .live ≤ maxLive) (sym (given .session-is)) (few-live s b (G .accepted))
+  pub live-low : session .firings .live ≤ maxLive
+  live-low = subst (λ (x : Record). x .firings .live ≤ maxLive) (sym (given .session-is)) (few-live s b (G .accepted))
 
   pub bonds-low : session .marking .count ≤ maxBonds
   bonds-low = subst (λ (x : Record). x .marking .count ≤ maxBonds) (sym (given .session-is)) (few-bonds s b (G .accepted))
@@ -175,15 +175,15 @@ module _ (s b : List ℕ) (r : Record) (words₀ values₀ : List ℕ) (session 
   -- the two writers, one after the other, leave the session's text
   pub session-pieces : (buf : List ℕ) {buf₁ buf₂ : List ℕ} {k₁ k₂ : ℕ} (n : ℕ) → n ≡ basesOf s
       → Filled (linesUpto words values (howMany b)) buf k₁ buf₁
-      → Wrote (closingOf (journalIn n (session .marking) (session .live) (session .firings)) tally) k₁ buf₁ k₂ buf₂
+      → Wrote (closingOf (journalIn n (session .marking) (session .firings)) tally) k₁ buf₁ k₂ buf₂
       → Filled (sessionText (netOf s) (commandsIn b)) buf k₂ buf₂
   unfolding sessionText
   session-pieces buf n bases w₁ w₂ =
       let first = linesUpto words values (howMany b) in
-      let last = closingOf (journalIn n (session .marking) (session .live) (session .firings)) tally in
+      let last = closingOf (journalIn n (session .marking) (session .firings)) tally in
       let one : first ≡ answerLines 0 (replies s b (G .accepted)) = (λ i. linesUpto (given .words-are i) (given .values-are i) (howMany b)) ∙ lines-stored s b (G .accepted) words₀ values₀ (G .room) (G .space) in
       let two : last ≡ closingOf (journal s b (G .accepted)) (tallied (replies s b (G .accepted)) zeroTally) =
-      (λ i. closingOf (journalIn (bases i) (given .session-is i .marking) (given .session-is i .live) (given .session-is i .firings)) (given .tally-is i))
+      (λ i. closingOf (journalIn (bases i) (given .session-is i .marking) (given .session-is i .firings)) (given .tally-is i))
       ∙ λ i. closingOf (holds s b (G .accepted) i) (tally-is s b (G .accepted) i) in
       let all = written-more last (written-more first (written-none buf 0) (w₁ .0 ∙ sym (zero-add (length first)), w₁ .1)) w₂ in
       rw (← one, ← two) (all .count ∙ zero-add (length (first ++ last)), all .list)

@@ -8,7 +8,7 @@ ghost use Rattle.net.specs.Limits.{maxBases, maxBonds, maxLive};
 ghost use Rattle.net.specs.Checks.{clear};
 ghost use Rattle.format.specs.NetOf.{netOf};
 ghost use Rattle.sheet.specs.Checks.{sheetChecks};
-ghost use Rattle.firings.specs.Form.{liveKeys};
+ghost use Rattle.firings.specs.Search.{keysIn};
 ghost use Rattle.closing.specs.Closing.{placesLine, liveLine};
 ghost use Rattle.sound.specs.Soundness.{journalIn};
 ghost use Rattle.session.specs.Commands.{freshOf};
@@ -21,11 +21,9 @@ use closing::put_bonds;
 use closing::put_live;
 use closing::put_places;
 use closing::put_tally;
-use firings::Firing;
 use format::base_count;
 use format::word_at;
 use net::MAX_BASES;
-use net::MAX_LIVE;
 use net::Place;
 use report::put_line;
 use runs::run;
@@ -101,20 +99,6 @@ fn widened(places: [Place; MAX_BASES]) -> [u16; MAX_BASES]
     wide
 }
 
-// The keys of the firings.
-fn keys_of(firings: [Firing; MAX_LIVE]) -> [u16; MAX_LIVE]
-    ensures { λ r. ⌜ r ≡ liveKeys maxLive firings ⌝ }
-{
-    let mut keys = [0u16; MAX_LIVE];
-    let mut i = 0;
-    while i < MAX_LIVE {
-        let f = firings[i];
-        keys[i] = f.key.0;
-        i += 1;
-    }
-    keys
-}
-
 // `places` and the places of the first n bases. `put_closing` sees to the room, as for the function below.
 fn put_base_places(buf: &mut [u8], at: usize, places: [Place; MAX_BASES], n: usize) -> usize
     requires { ⌜ (at + placesRoom ≤ length (now buf)) × (n ≤ maxBases) ⌝ }
@@ -125,20 +109,19 @@ fn put_base_places(buf: &mut [u8], at: usize, places: [Place; MAX_BASES], n: usi
     put_places(buf, at, &wide[..n])
 }
 
-// `live` and the keys of the first n firings.
-fn put_live_keys(buf: &mut [u8], at: usize, firings: [Firing; MAX_LIVE], n: usize) -> usize
-    requires { ⌜ (at + liveRoom ≤ length (now buf)) × (n ≤ maxLive) ⌝ }
-    ensures { λ r. ⌜ Wrote (liveLine (liveKeys n firings)) at (now (buf .entry)) r (now (buf .exit)) ⌝ }
+// `live` and the first n keys.
+fn put_live_keys(buf: &mut [u8], at: usize, keys: &[u16], n: usize) -> usize
+    requires { ⌜ (at + liveRoom ≤ length (now buf)) × (n ≤ maxLive) × (n ≤ length (now keys)) ⌝ }
+    ensures { λ r. ⌜ Wrote (liveLine (keysIn n (now (keys .entry)))) at (now (buf .entry)) r (now (buf .exit)) ⌝ }
     ensures { λ r. ⌜ r ≤ at + liveRoom ⌝ }
 {
-    let keys = keys_of(firings);
     put_live(buf, at, &keys[..n])
 }
 
 // The closing lines of what a record holds. `put_session` has a sound record and sees to the room.
 fn put_closing(buf: &mut [u8], at: usize, bases: usize, r: Record, t: Tally) -> usize
-    requires { ⌜ (at + closingRoom ≤ length (now buf)) × (bases ≤ maxBases) × (r .marking .count ≤ maxBonds) × (r .live ≤ maxLive) ⌝ }
-    ensures { λ x. ⌜ Wrote (closingOf (journalIn bases (r .marking) (r .live) (r .firings)) t) at (now (buf .entry)) x (now (buf .exit)) ⌝ }
+    requires { ⌜ (at + closingRoom ≤ length (now buf)) × (bases ≤ maxBases) × (r .marking .count ≤ maxBonds) × (r .firings .live ≤ maxLive) ⌝ }
+    ensures { λ x. ⌜ Wrote (closingOf (journalIn bases (r .marking) (r .firings)) t) at (now (buf .entry)) x (now (buf .exit)) ⌝ }
     ensures { λ x. ⌜ x ≤ at + closingRoom ⌝ }
 {
     let m = r.marking;
@@ -146,11 +129,10 @@ fn put_closing(buf: &mut [u8], at: usize, bases: usize, r: Record, t: Tally) -> 
     let lo = m.lo;
     let hi = m.hi;
     let count = m.count;
-    let firings = r.firings;
-    let live = r.live;
+    let f = r.firings;
     let a = put_base_places(buf, at, places, bases);
     let b = put_bonds(buf, a, &lo, &hi, count);
-    let c = put_live_keys(buf, b, firings, live);
+    let c = put_live_keys(buf, b, &f.keys, f.live);
     put_tally(buf, c, t.fired, t.undone, t.refused)
 }
 

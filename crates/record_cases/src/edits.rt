@@ -35,18 +35,25 @@ pub fn with_bond_count(r: Record, n: usize) -> Record {
 
 pub fn with_live(r: Record, n: usize) -> Record {
     let mut next = r;
-    next.live = n;
+    let mut f = r.firings;
+    f.live = n;
+    next.firings = f;
     next
 }
 
 pub fn firing_at(r: Record, i: usize) -> Firing {
-    let firings = r.firings;
-    firings[i % 256]
+    let f = r.firings;
+    firings::firing_at(&f.transitions, &f.keys, &f.moved, i % 256)
 }
 
 pub fn with_firing(r: Record, i: usize, f: Firing) -> Record {
     let mut next = r;
-    next.firings[i % 256] = f;
+    let mut all = r.firings;
+    let at = i % 256;
+    all.transitions[at] = f.transition;
+    all.keys[at] = f.key.0;
+    all.moved[at] = f.moved;
+    next.firings = all;
     next
 }
 
@@ -61,11 +68,10 @@ pub fn with_keys(r: Record, a: u16, b: u16, c: u16) -> Record {
     with_key(with_key(with_key(r, 0, a), 1, b), 2, c)
 }
 
-// A moved flag turned over.
+// A base put into a moved set, or taken out of it: its bit turned over.
 pub fn with_flag(r: Record, i: usize, base: usize) -> Record {
     let mut f = firing_at(r, i);
-    let moved = f.moved;
-    f.moved[base % 64] = !moved[base % 64];
+    f.moved = f.moved ^ (1u64 << (base % 64));
     with_firing(r, i, f)
 }
 

@@ -14,7 +14,7 @@ use Rattle.session.specs.declared.Record.{Record}
 use Rattle.session.specs.declared.Outcome.{Outcome}
 use Rattle.session.proofs.Steps.{sound-performs, held-back, held-soundFor, step}
 use Rattle.session.proofs.Sounds.{rule, few, held}
-use Rattle.runs.specs.Lists.{steppedOf}
+use Rattle.runs.specs.Lists.{StepGives}
 use Rattle.runs.specs.declared.Stepped.{Stepped}
 
 module _ (s : List ℕ) (r : Record) (S : Sound s r) where
@@ -44,17 +44,19 @@ module _ (s : List ℕ) (r : Record) (S : Sound s r) where
   unfolding commandOf
   command-sound t c = outcome-sound c
 
-  pub step-sound : (t : Tally) (c : List ℕ) (x : Stepped) → x ≡ steppedOf (commandOf s r t c) → Sound s (x .session)
-  step-sound t c x e = subst (λ (y : Stepped). Sound s (y .session)) (sym e) (command-sound t c)
+  pub step-sound : (t : Tally) (c : List ℕ) (x : Stepped) (next : Record) → StepGives (commandOf s r t c) x next → Sound s next
+  step-sound t c x next g = subst (λ (y : Record). Sound s y) (sym (g .session-is)) (command-sound t c)
 
   -- one command, counted, is the command of the definition
-  pub stepped : (t : Tally) (c : List ℕ) (o : Outcome) → o ≡ performOf s r c
-      → (word : ℕ) → word ≡ wordOf (o .answer) → (value : ℕ) → value ≡ valueOf (o .answer) (o .key) → (next : Tally) → next ≡ countedOf t word
-      → record { session = o .session; tally = next; word = word; value = value } ≡ steppedOf (commandOf s r t c)
+  pub stepped : (t : Tally) (c : List ℕ) (o : Outcome) → o ≡ performOf s r c → (x : Stepped) → x .word ≡ wordOf (o .answer) → x .value ≡ valueOf (o .answer) (o .key)
+      → x .tally ≡ countedOf t (x .word) → StepGives (commandOf s r t c) x (o .session)
   unfolding commandOf
-  stepped t c o e word w value v next n =
+  stepped t c o e x w v n =
       let q : o ≡ outcomeFor s r c = e ∙ performs c in
-      let w′ : word ≡ wordOf (outcomeFor s r c .answer) = w ∙ ap (λ (x : Outcome). wordOf (x .answer)) q in
-      let v′ : value ≡ valueOf (outcomeFor s r c .answer) (outcomeFor s r c .key) = v ∙ ap (λ (x : Outcome). valueOf (x .answer) (x .key)) q in
-      let n′ : next ≡ countedOf t (wordOf (outcomeFor s r c .answer)) = n ∙ ap (countedOf t) w′ in
-      λ i. record { session = q i .session; tally = n′ i; word = w′ i; value = v′ i }
+      let w′ : x .word ≡ wordOf (outcomeFor s r c .answer) = w ∙ ap (λ (y : Outcome). wordOf (y .answer)) q in
+      record {
+        session-is = ap (λ (y : Outcome). y .session) q;
+        tally-is = n ∙ ap (countedOf t) w′;
+        word-is = w′;
+        value-is = v ∙ ap (λ (y : Outcome). valueOf (y .answer) (y .key)) q;
+      }

@@ -17,7 +17,7 @@ use Rattle.session.specs.Commands.{wordOf, valueOf, Result, commandOf}
 use Rattle.session.specs.Runs.{Answered, Session, runOf}
 use Rattle.runs.proofs.Stays.{command-sound}
 use Rattle.runs.specs.declared.Stepped.{Stepped}
-use Rattle.runs.specs.Lists.{howMany, commandAt, commandsIn, wordsOf, valuesOf, steppedOf, ranTo, ranOf, RunGives}
+use Rattle.runs.specs.Lists.{howMany, commandAt, commandsIn, wordsOf, valuesOf, StepGives, ranTo, ranOf, RunGives}
 
 -- the answer that a list of them keeps
 abbrev kept : Result → Answered
@@ -107,21 +107,23 @@ module _ (s b : List ℕ) (r : Record) (t : Tally) where
 
     -- one command more
     pub upto-more : (i : ℕ) (session : Record) (tally : Tally) (words values : List ℕ) → Upto words₀ values₀ i session tally words values
-        → (c : List ℕ) → c ≡ commandAt b i → (x : Stepped) → x ≡ steppedOf (commandOf s session tally c)
-        → Upto words₀ values₀ (i + 1) (x .session) (x .tally) (set words i (x .word)) (set values i (x .value))
-    upto-more i session tally words values u c e x q =
+        → (c : List ℕ) → c ≡ commandAt b i → (x : Stepped) (next : Record) → StepGives (commandOf s session tally c) x next
+        → Upto words₀ values₀ (i + 1) next (x .tally) (set words i (x .word)) (set values i (x .value))
+    upto-more i session tally words values u c e x next g =
         let y : Session = ranTo s b r t i in
         let z : Result = commandOf s (y .session) (y .tally) (commandAt b i) in
         let m : more s y (commandAt b i) ≡ ranTo s b r t (i + 1) = sym (to-more i) in
-        let w : x ≡ steppedOf z = q ∙ λ k. steppedOf (commandOf s (u .session-is k) (u .tally-is k) (e k)) in
+        let same : commandOf s session tally c ≡ z = λ k. commandOf s (u .session-is k) (u .tally-is k) (e k) in
+        let w : x .word ≡ wordOf (z .outcome .answer) = g .word-is ∙ ap (λ (v : Result). wordOf (v .outcome .answer)) same in
+        let v : x .value ≡ valueOf (z .outcome .answer) (z .outcome .key) = g .value-is ∙ ap (λ (v : Result). valueOf (v .outcome .answer) (v .outcome .key)) same in
         record {
-          session-is = ap (λ (v : Stepped). v .session) w ∙ ap (λ (v : Session). v .session) m;
-          tally-is = ap (λ (v : Stepped). v .tally) w ∙ ap (λ (v : Session). v .tally) m;
+          session-is = g .session-is ∙ ap (λ (v : Result). v .outcome .session) same ∙ ap (λ (v : Session). v .session) m;
+          tally-is = g .tally-is ∙ ap (λ (v : Result). v .tally) same ∙ ap (λ (v : Session). v .tally) m;
           words-are =
-              (λ k. set (u .words-are k) i (w k .word)) ∙ stored (λ (a : Answered). wordOf (a .answer)) (y .answers) (kept z) words₀ i (to-length i)
+              (λ k. set (u .words-are k) i (w k)) ∙ stored (λ (a : Answered). wordOf (a .answer)) (y .answers) (kept z) words₀ i (to-length i)
               ∙ ap (λ (v : Session). sets words₀ 0 (wordsOf v)) m;
           values-are =
-              (λ k. set (u .values-are k) i (w k .value)) ∙ stored (λ (a : Answered). valueOf (a .answer) (a .key)) (y .answers) (kept z) values₀ i (to-length i)
+              (λ k. set (u .values-are k) i (v k)) ∙ stored (λ (a : Answered). valueOf (a .answer) (a .key)) (y .answers) (kept z) values₀ i (to-length i)
               ∙ ap (λ (v : Session). sets values₀ 0 (valuesOf v)) m;
         }
 

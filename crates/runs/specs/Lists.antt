@@ -40,14 +40,13 @@ valuesOf y = map (λ (a : Answered). valueOf (a .answer) (a .key)) (y .answers)
 abbrev pub lowRefusal : Answer → Bool
 lowRefusal a = pick (eqb (wordOf a) 2) (leb 11 (answerNumber a) && leb (answerNumber a) 21) true
 
--- one command's outcome and tally, with the answer and the key as word and value
-abbrev pub steppedOf : Result → Stepped
-steppedOf y = record {
-  session = y .outcome .session;
-  tally = y .tally;
-  word = wordOf (y .outcome .answer);
-  value = valueOf (y .outcome .answer) (y .outcome .key);
-}
+-- What one command in place promises: the record that the arrays hold, the tally, and the answer and the key as word and
+-- value are those of the definition.
+pub record StepGives (y : Result) (x : Stepped) (session : Record) : Type 0 where
+  pub session-is : session ≡ y .outcome .session
+  pub tally-is : x .tally ≡ y .tally
+  pub word-is : x .word ≡ wordOf (y .outcome .answer)
+  pub value-is : x .value ≡ valueOf (y .outcome .answer) (y .outcome .key)
 
 -- ---- The run
 

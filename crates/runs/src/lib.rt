@@ -3,21 +3,34 @@
 ghost use mathlib.Core.Path.{_≡_};
 ghost use Prim.Native.Nat.{_<_, _≤_};
 ghost use lib.ListN.{length, take, drop};
+ghost use Rattle.bonds.specs.Ends.{bondsIn};
+ghost use Rattle.labels.specs.Labelled.{Labelled};
 ghost use Rattle.session.specs.Records.{Sound};
 ghost use Rattle.session.specs.Commands.{commandOf};
-ghost use Rattle.runs.specs.Lists.{howMany, steppedOf, ranOf, RunGives};
+ghost use Rattle.session.specs.Lent.{recordAt};
+ghost use Rattle.runs.specs.Lists.{howMany, ranOf, StepGives, RunGives};
+use firings::Firings;
+use labels::label_in;
+use marking::Marking;
+use net::Base;
+use net::MAX_BASES;
+use net::MAX_BONDS;
+use net::MAX_LIVE;
+use net::Place;
 use session::Record;
+use session::perform_in;
 use session::value_of;
 use session::word_of;
 use tally::Tally;
 use tally::counted;
 
-// What one command came to: the record and the tally after it, and its answer as a word and a value.
+// What one command came to: the tally after it, its answer as a word and a value, and how many bonds and live firings there are.
 struct Stepped {
-    pub session: Record,
     pub tally: Tally,
     pub word: u8,
     pub value: u16,
+    pub count: usize,
+    pub live: usize,
 }
 
 // The record and the tally after a list of commands.
@@ -38,27 +51,64 @@ pub fn command_at<'a>(commands: &'a [u8], at: usize) -> &'a [u8]
     &commands[at..at + 3]
 }
 
-// One command on a sound record, with the tally by value. `run` sees to it that the record is sound.
-fn step_with(r: Record, sheet: &[u8], bytes: &[u8], t: Tally) -> Stepped
-    requires { ⌜ Sound (now sheet) r ⌝ }
-    ensures { λ x. ⌜ x ≡ steppedOf (commandOf (now (sheet .entry)) r t (now (bytes .entry))) ⌝ }
+// One command in place on the arrays of a sound record, with the tally by value. `run` sees to it that the record is sound and
+// the labels are those of its bonds.
+fn step_in(
+    sheet: &[u8],
+    bytes: &[u8],
+    t: Tally,
+    places: &mut [Place; MAX_BASES],
+    count: usize,
+    lo: &mut [Base; MAX_BONDS],
+    hi: &mut [Base; MAX_BONDS],
+    live: usize,
+    transitions: &mut [u8; MAX_LIVE],
+    keys: &mut [u16; MAX_LIVE],
+    moved: &mut [u64; MAX_LIVE],
+    l: &mut [Base; MAX_BASES],
+    members: &mut [u64; MAX_BASES],
+) -> Stepped
+    requires { ⌜
+        Sound (now sheet) (recordAt (now places) count (now lo) (now hi) live (now transitions) (now keys) (now moved))
+        × Labelled (now l) (now members) (bondsIn (now lo) (now hi) count) ⌝ }
+    ensures { λ x. ⌜
+        StepGives (commandOf (now (sheet .entry))
+        (recordAt (now (places .entry)) count (now (lo .entry)) (now (hi .entry)) live (now (transitions .entry)) (now (keys .entry)) (now (moved .entry)))
+        t (now (bytes .entry))) x
+        (recordAt (now (places .exit)) (x .count) (now (lo .exit)) (now (hi .exit)) (x .live) (now (transitions .exit)) (now (keys .exit)) (now (moved .exit))) ⌝ }
+    ensures { λ x. ⌜ Labelled (now (l .exit)) (now (members .exit)) (bondsIn (now (lo .exit)) (now (hi .exit)) (x .count)) ⌝ }
 {
-    let o = r.perform(sheet, bytes);
-    let answer = o.answer;
+    let done = perform_in(
+        sheet,
+        bytes,
+        places,
+        count,
+        lo,
+        hi,
+        live,
+        transitions,
+        keys,
+        moved,
+        l,
+        members,
+    );
+    let answer = done.answer;
+    let key = done.key;
     let word = word_of(answer);
-    let value = value_of(answer, o.key);
+    let value = value_of(answer, key);
     let next = counted(t, word);
-    let session = o.session;
     Stepped {
-        session: session,
         tally: next,
         word: word,
         value: value,
+        count: done.count,
+        live: done.live,
     }
 }
 
-// All commands of the bytes, in order; the answers as words and values. The caller has a sound record on an accepted sheet,
-// and lists with an entry for each command: the program sees to both.
+// All commands of the bytes, in order; the answers as words and values. The record is copied into arrays once, which each
+// command changes in place, and is put together once at the end. The caller has a sound record on an accepted sheet, and lists
+// with an entry for each command: the program sees to both.
 pub fn run(
     r: Record,
     sheet: &[u8],
@@ -72,22 +122,62 @@ pub fn run(
         RunGives (ranOf (now (sheet .entry)) (now (commands .entry)) r t)
         (now (words .entry)) (now (values .entry)) (x .session) (x .tally) (now (words .exit)) (now (values .exit)) ⌝ }
 {
-    let mut session = r;
+    let m = r.marking;
+    let mut places = m.places;
+    let mut count = m.count;
+    let mut lo = m.lo;
+    let mut hi = m.hi;
+    let f = r.firings;
+    let mut live = f.live;
+    let mut transitions = f.transitions;
+    let mut keys = f.keys;
+    let mut moved = f.moved;
+    let mut l = [0u8; MAX_BASES];
+    let mut members = [0u64; MAX_BASES];
+    label_in(&mut l, &mut members, &lo, &hi, count);
     let mut counts = t;
     let mut at = 0;
     let mut i = 0;
     while at < commands.len() {
         let bytes = command_at(commands, at);
-        let done = step_with(session, sheet, bytes, counts);
+        let done = step_in(
+            sheet,
+            bytes,
+            counts,
+            &mut places,
+            count,
+            &mut lo,
+            &mut hi,
+            live,
+            &mut transitions,
+            &mut keys,
+            &mut moved,
+            &mut l,
+            &mut members,
+        );
         words[i] = done.word;
         values[i] = done.value;
-        session = done.session;
         counts = done.tally;
+        count = done.count;
+        live = done.live;
         at += 3;
         i += 1;
     }
     Ran {
-        session: session,
+        session: Record {
+            marking: Marking {
+                places: places,
+                count: count,
+                lo: lo,
+                hi: hi,
+            },
+            firings: Firings {
+                live: live,
+                transitions: transitions,
+                keys: keys,
+                moved: moved,
+            },
+        },
         tally: counts,
     }
 }

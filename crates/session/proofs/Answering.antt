@@ -14,9 +14,6 @@ use Rattle.format.specs.Parts.{basesOf, transitionsOf}
 use Rattle.format.specs.NetOf.{netOf}
 use Rattle.sheet.specs.Checks.{sheetChecks, checksFrom}
 use Rattle.sheet.proofs.Order.{clear-first, first-append}
-use lib.ListN.{length, getD}
-use Rattle.net.proofs.Tables.{length-table}
-use Rattle.firings.specs.Lines.{past, asLine, linesIn}
 use Rattle.sound.specs.Soundness.{LaidOut}
 use Rattle.session.specs.Records.{heldIn, recordOf, soundFor, Sound}
 use Rattle.session.specs.Commands.{refusal, acceptOf, performOf, commandChecks, outcomeFor}
@@ -66,8 +63,6 @@ module _ (s : List ℕ) (r : Record) (c : List ℕ) where
   performed a h = sym (sound-performs s a r c h)
 
 -- a record that passes the test is sound
-pub sound-of : (s : List ℕ) (r : Record) → clear (sheetChecks s) ≡ true → soundFor s r ≡ true → LaidOut (basesOf s) (r .marking) (r .live) (r .firings) → Sound s r
+pub sound-of : (s : List ℕ) (r : Record) → clear (sheetChecks s) ≡ true → soundFor s r ≡ true → LaidOut (basesOf s) (r .marking) (r .firings) → Sound s r
 unfolding recordOf
-sound-of s r a h l =
-    let live : r .live ≡ length (linesIn (basesOf s) (r .live) (r .firings)) = sym (length-table (r .live) (λ i. asLine (basesOf s) (getD (r .firings) i past))) in
-    record { accepted = a; sound = h; form = λ i. record { marking = l .0 i; live = live i; firings = l .1 i } }
+sound-of s r a h l = record { accepted = a; sound = h; form = λ i. record { marking = l .0 i; firings = l .1 i } }

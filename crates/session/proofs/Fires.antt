@@ -7,7 +7,7 @@ use Prim.Native.Nat.{ℕ, suc, _+_, _<_, _≤_}
 use native.Mathlib.Omega.{arith}
 use native.Mathlib.Numerals.{add-one}
 use lib.Dec.{eqb, leb}
-use lib.ListN.{length, set, length-append}
+use lib.ListN.{length, set}
 use borrow.Author.Tests.{le-leb, lt-leb, eq-eqb, ne-eqb}
 use Rattle.net.specs.Limits.{maxLive, maxKey}
 use Rattle.net.specs.Tests.{pick}
@@ -21,15 +21,17 @@ use Rattle.net.proofs.Checks.{clear-append}
 use Rattle.format.specs.Parts.{basesOf, transitionsOf}
 use Rattle.format.specs.NetOf.{netOf}
 use Rattle.sheet.proofs.Order.{first-append}
-use Rattle.marking.specs.Form.{markingOf, laid, flags}
+use Rattle.words.specs.Sets.{packed}
+use Rattle.marking.specs.Form.{markingOf, laid}
 use Rattle.marking.specs.declared.Marking.{Marking}
-use Rattle.firings.specs.Lines.{firingsOf}
+use Rattle.firings.specs.Lines.{lying, firingsOf}
 use Rattle.firings.specs.Search.{lastKey}
 use Rattle.firings.proofs.Changes.{with-line}
 use Rattle.sound.proofs.Lines.{enabled-first, enabled-listed}
 use Rattle.session.specs.Records.{heldIn, recordOf, Sound}
 use Rattle.session.specs.Commands.{refusal, outcomeOf, fireOutcome}
 use Rattle.session.specs.declared.Record.{Record}
+use Rattle.session.specs.declared.Outcome.{Outcome}
 use Rattle.session.specs.declared.Answer.the-variants.{Fired}
 use Rattle.session.proofs.Sounds.{held, live-is, firings-are, last-given}
 
@@ -69,42 +71,43 @@ module _ (s : List ℕ) (r : Record) (t : Transition) (S : Sound s r) where
     pub listed : t .0 < transitionsOf s
     listed = enabled-listed s (j .marking) t (enabled-first (netOf s) (j .marking) t ∙ enabled)
 
-    pub full : maxLive ≤ r .live → refusal r 17 ≡ fireOutcome s r t
+    pub full : maxLive ≤ r .firings .live → refusal r 17 ≡ fireOutcome s r t
     full h =
-        let q : leb maxLive (length (j .lines)) ≡ true = ap (leb maxLive) (sym (live-is s r S)) ∙ le-leb maxLive (r .live) h in
+        let q : leb maxLive (length (j .lines)) ≡ true = ap (leb maxLive) (sym (live-is s r S)) ∙ le-leb maxLive (r .firings .live) h in
         sym (by-first false 17 (clear-space ∙ rw q) (first-space ∙ rw q))
 
-    module _ (room : r .live < maxLive) (last : Key) (el : last ≡ lastKey (r .live) (r .firings)) where
+    module _ (room : r .firings .live < maxLive) (last : Key) (el : last ≡ lastKey (r .firings .live) (r .firings .keys)) where
       given : last ≡ lastGiven j
-      given = el ∙ last-given (basesOf s) (r .live) (r .firings) (held s r S .up)
+      given = el ∙ last-given (basesOf s) (r .firings) (held s r S .up)
 
       not-full : leb maxLive (length (j .lines)) ≡ false
-      not-full = ap (leb maxLive) (sym (live-is s r S)) ∙ lt-leb maxLive (r .live) room
+      not-full = ap (leb maxLive) (sym (live-is s r S)) ∙ lt-leb maxLive (r .firings .live) room
 
       pub spent : maxKey ≤ last .0 → refusal r 18 ≡ fireOutcome s r t
       spent h =
           let q : leb maxKey (lastGiven j .0) ≡ true = ap (λ (k : Key). leb maxKey (k .0)) (sym given) ∙ le-leb maxKey (last .0) h in
           sym (by-first false 18 (clear-space ∙ rw (not-full, q)) (first-space ∙ rw (not-full, q)))
 
-      pub done : last .0 < maxKey → (m : Marking) (x : List Bool) → m ≡ laid (fire (basesOf s) (arcsOf (netOf s) t) (markingOf (basesOf s) (r .marking)))
-          → x ≡ flags (moved (basesOf s) (arcsOf (netOf s) t) (markingOf (basesOf s) (r .marking)))
-          → record {
-            answer = Fired;
-            key = key (last .0 + 1);
-            session = record { marking = m; live = r .live + 1; firings = set (r .firings) (r .live) (record { transition = t .0; key = key (last .0 + 1); moved = x }) };
-          } ≡ fireOutcome s r t
+      abbrev after : Marking → ℕ → Outcome
+      after m w = record {
+        answer = Fired;
+        key = key (last .0 + 1);
+        session = record {
+          marking = m;
+          firings = lying (r .firings .live + 1) (set (r .firings .transitions) (r .firings .live) (t .0)) (set (r .firings .keys) (r .firings .live) (last .0 + 1))
+              (set (r .firings .moved) (r .firings .live) w);
+        };
+      }
+
+      pub done : last .0 < maxKey → (m : Marking) (w : ℕ) → m ≡ laid (fire (basesOf s) (arcsOf (netOf s) t) (markingOf (basesOf s) (r .marking)))
+          → w ≡ packed (moved (basesOf s) (arcsOf (netOf s) t) (markingOf (basesOf s) (r .marking))) → after m w ≡ fireOutcome s r t
       unfolding recordOf netOf
-      done h m x em ex =
+      done h m w em ew =
           let q : leb maxKey (lastGiven j .0) ≡ false = ap (λ (k : Key). leb maxKey (k .0)) (sym given) ∙ lt-leb maxKey (last .0) h in
           let l : LiveLine = newLine (netOf s) j t in
           let k : last .0 + 1 ≡ suc (lastGiven j .0) = add-one (last .0) ∙ ap (λ (y : Key). suc (y .0)) given in
           let size : length (j .lines) < maxLive = (let a = live-is s r S in omega arith) in
-          let live : r .live + 1 ≡ length (j .lines ++ (l ∷ [])) = (let a = live-is s r S in let b = length-append (j .lines) (l ∷ []) in omega arith) in
-          let fs : set (r .firings) (r .live) (record { transition = t .0; key = key (last .0 + 1); moved = x }) ≡ firingsOf (j .lines ++ (l ∷ [])) =
-          (λ i. set (firings-are s r S i) (live-is s r S i) (record { transition = t .0; key = key (k i); moved = ex i })) ∙ with-line (j .lines) l size in
-          let so : record {
-            answer = Fired;
-            key = key (last .0 + 1);
-            session = record { marking = m; live = r .live + 1; firings = set (r .firings) (r .live) (record { transition = t .0; key = key (last .0 + 1); moved = x }) };
-          } ≡ outcomeOf (fireReply (netOf s) j t) = λ i. record { answer = Fired; key = key (k i); session = record { marking = em i; live = live i; firings = fs i } } in
+          let fs : after m w .session .firings ≡ firingsOf (j .lines ++ (l ∷ [])) =
+          with-line (j .lines) l (r .firings .live) (t .0) (last .0 + 1) w (r .firings .transitions) (r .firings .keys) (r .firings .moved) size (live-is s r S) refl k ew (firings-are s r S) in
+          let so : after m w ≡ outcomeOf (fireReply (netOf s) j t) = λ i. record { answer = Fired; key = key (k i); session = record { marking = em i; firings = fs i } } in
           so ∙ sym (by-first true 0 (clear-space ∙ rw (not-full, q)) (first-space ∙ rw (not-full, q)))

@@ -1,22 +1,17 @@
--- The place of a key among the lines, the line there, and what was built on it.
+-- The place of a key among the lines, and the line there.
 -- Assumes nothing.
-use mathlib.Core.Path.{_≡_, refl, sym, _∙_, ap}
-use mathlib.Core.Logic.{inl, inr}
-use mathlib.Core.Bool.{Bool, true, false, _&&_, _||_}
-use mathlib.Core.List.{List, [], _∷_, _++_, map}
-use Prim.Native.Nat.{ℕ, zero, suc, _-_, _<_, _≤_}
+use mathlib.Core.Path.{_≡_, refl, ap}
+use mathlib.Core.Bool.{Bool, true, false, _||_}
+use mathlib.Core.List.{List, [], _∷_, _++_}
+use Prim.Native.Nat.{ℕ, suc, _<_, _≤_}
 use native.Mathlib.Omega.{arith}
-use lib.Dec.{ltb}
-use lib.ListN.{length, getD, replicate}
+use lib.ListN.{length, getD}
 use borrow.Author.Tests.{eqb-true}
-use Rattle.causal.specs.Lists.{Mem}
-use Rattle.net.specs.Limits.{maxBases}
 use Rattle.net.specs.Tests.{pick}
 use Rattle.net.specs.Journal as J
-use Rattle.net.specs.Journal.{LiveLine, lineKeys, sameKey, isLive, common, builtOn}
+use Rattle.net.specs.Journal.{LiveLine, lineKeys, sameKey, isLive}
 use Rattle.net.specs.declared.Key.{Key}
-use Rattle.firings.specs.Lines.{firingOf}
-use Rattle.firings.specs.Search.{indexOf, builtOnIn}
+use Rattle.firings.specs.Search.{indexOf}
 
 -- ---- a key's place
 
@@ -68,20 +63,3 @@ place-found k (l ∷ ls) h = go (sameKey (l .key) k) refl h (place-found k ls)
     go : (b : Bool) → sameKey (l .key) k ≡ b → indexOf k (lineKeys (l ∷ ls)) < suc (length ls)
         → (indexOf k (lineKeys ls) < length ls → Found k ls (indexOf k (lineKeys ls))) → Found k (l ∷ ls) (indexOf k (lineKeys (l ∷ ls)))
     go b e g ih = pack (is (sameKey (l .key) k) refl g ih)
-
--- ---- flags with unset ones after them
-
-common-pad : (a b : List Bool) (x y : ℕ) → length a ≡ length b → common (a ++ replicate x false) (b ++ replicate y false) ≡ common a b
-common-pad [] [] zero y e = refl
-common-pad [] [] (suc x) zero e = refl
-common-pad [] [] (suc x) (suc y) e = common-pad [] [] x y e
-common-pad [] (c ∷ b) x y e = absurd (let z : ⊥ = omega arith in z)
-common-pad (c ∷ a) [] x y e = absurd (let z : ⊥ = omega arith in z)
-common-pad (c ∷ a) (d ∷ b) x y e = ap (λ (h : Bool). (c && d) || h) (common-pad a b x y (omega arith))
-
-pub built-lines : (n : ℕ) (l : LiveLine) (ls : List LiveLine) → length (l .moved) ≡ n → ((k : LiveLine) → Mem k ls → length (k .moved) ≡ n) → builtOnIn (firingOf l) (map firingOf ls) ≡ builtOn ls l
-built-lines n l [] e h = refl
-built-lines n l (k ∷ ls) e h =
-    let c : common (firingOf l .moved) (firingOf k .moved) ≡ common (l .moved) (k .moved) = common-pad (l .moved) (k .moved) (maxBases - length (l .moved)) (maxBases - length (k .moved)) (e ∙ sym (h k (inl refl))) in
-    let rest : builtOnIn (firingOf l) (map firingOf ls) ≡ builtOn ls l = built-lines n l ls e (λ j m. h j (inr m)) in
-    λ i. (ltb (l .key .0) (k .key .0) && c i) || rest i

@@ -70,7 +70,7 @@ module _ (s : List ℕ) (accepted : clear (sheetChecks s) ≡ true) (ok : netRul
 
   pub held-soundFor : (j : Journal) → Held (netOf s) j → soundFor s (recordOf j) ≡ true
   unfolding soundIn
-  held-soundFor j H = and-i (formed (basesOf s) (recordOf j .marking) (recordOf j .live) (recordOf j .firings)) (sound (netOf s) (heldIn s (recordOf j)))
+  held-soundFor j H = and-i (formed (basesOf s) (recordOf j .marking) (recordOf j .firings)) (sound (netOf s) (heldIn s (recordOf j)))
       (record-form (basesOf s) j (fits j H)) (ap (sound (netOf s)) (held-back j H) ∙ held-sound (netOf s) j H)
 
   -- a command on the record of a journal gives the record of the journal after it, and the journal's answer

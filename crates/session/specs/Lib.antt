@@ -1,4 +1,5 @@
 -- What a session is on the record: soundness, starting, one command, a list of commands.
 pub mod Records
 pub mod Commands
+pub mod Lent
 pub mod Runs

@@ -4,7 +4,6 @@ use mathlib.Core.Path.{_≡_}
 use mathlib.Core.Bool.{Bool, true}
 use mathlib.Core.List.{List}
 use Prim.Native.Nat.{ℕ}
-use lib.ListN.{length}
 use Rattle.net.specs.Checks.{clear}
 use Rattle.net.specs.Journal.{Journal}
 use Rattle.format.specs.Parts.{basesOf}
@@ -16,16 +15,16 @@ use Rattle.session.specs.declared.Record.{Record}
 
 -- the journal that a record holds, on a sheet
 abbrev pub heldIn : List ℕ → Record → Journal
-heldIn s r = journalIn (basesOf s) (r .marking) (r .live) (r .firings)
+heldIn s r = journalIn (basesOf s) (r .marking) (r .firings)
 
 -- a journal in the record's form
 unfoldable pub recordOf : Journal → Record
-recordOf j = record { marking = laid (j .marking); live = length (j .lines); firings = firingsOf (j .lines) }
+recordOf j = record { marking = laid (j .marking); firings = firingsOf (j .lines) }
 
 -- Sound for a sheet: it has the form, and its firings, run forward alone from the start, are each accepted with those
 -- moved bases and end in its places and bonds.
 abbrev pub soundFor : List ℕ → Record → Bool
-soundFor s r = soundIn s (r .marking) (r .live) (r .firings)
+soundFor s r = soundIn s (r .marking) (r .firings)
 
 -- What an inner command asks: an accepted sheet, a sound record, and nothing in its arrays but what it holds.
 pub record Sound (s : List ℕ) (r : Record) : Type 0 where

@@ -1,35 +1,40 @@
 // Commands on the session record (document 01, commands, record, tally): the record goes in by value and comes out.
-// A customer's command checks sheet and record first; the inner methods ask for a sound record.
+// A customer's command checks sheet and record first; the functions in place ask for a sound record.
 ghost use mathlib.Core.Path.{_≡_};
 ghost use Prim.Native.Nat.{_<_};
+ghost use Rattle.bonds.specs.Ends.{bondsIn};
+ghost use Rattle.labels.specs.Labelled.{Labelled};
 ghost use Rattle.session.specs.Records.{Sound};
 ghost use Rattle.session.specs.Commands.{decodedOf, wordOf, valueOf, valueBound, refusal, fireOutcome, undoOutcome, performOf, outcomeFor, Commanded};
-use firings::Firing;
+ghost use Rattle.session.specs.Lent.{recordAt, given, refusedIn};
+use firings::Firings;
 use firings::built_on;
-use firings::closed_up;
+use firings::close_up;
+use firings::firing_at;
 use firings::index_of;
 use firings::last_key;
 use format::byte_at;
 use format::word_at;
+use labels::label_in;
 use marking::Marking;
+use net::Base;
 use net::Key;
+use net::MAX_BASES;
+use net::MAX_BONDS;
 use net::MAX_KEY;
 use net::MAX_LIVE;
+use net::Place;
 use net::Transition;
 use sheet::check_sheet;
 use sheet::sheet_number;
 use sound::is_sound;
 use steps::enable_refusal;
-use steps::fired;
-use steps::moved_by;
-use steps::undone;
 use tally::Tally;
 
 // The session record: a marking, and the live firings in strictly ascending keys. Unused entries hold 0.
 pub struct Record {
     pub marking: Marking,
-    pub live: usize,
-    pub firings: [Firing; MAX_LIVE],
+    pub firings: Firings,
 }
 
 // A command that can be read.
@@ -120,6 +125,212 @@ pub struct Counted {
     pub tally: Tally,
 }
 
+// What a command in place gives: the answer, the key (0 where it is refused), and how many bonds and live firings there are then.
+pub struct Done {
+    pub answer: Answer,
+    pub key: Key,
+    pub count: usize,
+    pub live: usize,
+}
+
+// A refused command changes nothing, and has key 0.
+fn refused_in(n: u8, count: usize, live: usize) -> Done
+    ensures { λ r. ⌜ r ≡ refusedIn n count live ⌝ }
+{
+    Done {
+        answer: Answer::Refused(n),
+        key: Key(0),
+        count: count,
+        live: live,
+    }
+}
+
+// Kind 1, in place on the arrays of a record: places, bonds and live firings, and beside them the labels of the bonds.
+// The record is sound and the sheet accepted, here and below: `perform` and a list of commands see to it.
+fn fire_in(
+    sheet: &[u8],
+    t: Transition,
+    places: &mut [Place; MAX_BASES],
+    count: usize,
+    lo: &mut [Base; MAX_BONDS],
+    hi: &mut [Base; MAX_BONDS],
+    live: usize,
+    transitions: &mut [u8; MAX_LIVE],
+    keys: &mut [u16; MAX_LIVE],
+    moved: &mut [u64; MAX_LIVE],
+    l: &mut [Base; MAX_BASES],
+    members: &mut [u64; MAX_BASES],
+) -> Done
+    requires { ⌜
+        Sound (now sheet) (recordAt (now places) count (now lo) (now hi) live (now transitions) (now keys) (now moved))
+        × Labelled (now l) (now members) (bondsIn (now lo) (now hi) count) ⌝ }
+    ensures { λ r. ⌜
+        given r (now (places .exit)) (now (lo .exit)) (now (hi .exit)) (now (transitions .exit)) (now (keys .exit)) (now (moved .exit))
+        ≡ fireOutcome (now (sheet .entry))
+        (recordAt (now (places .entry)) count (now (lo .entry)) (now (hi .entry)) live (now (transitions .entry)) (now (keys .entry)) (now (moved .entry))) t ⌝ }
+    ensures { λ r. ⌜ Labelled (now (l .exit)) (now (members .exit)) (bondsIn (now (lo .exit)) (now (hi .exit)) (r .count)) ⌝ }
+{
+    let refusal = enable_refusal(sheet, places, count, lo, hi, l, t);
+    if refusal != 0 {
+        return refused_in(refusal, count, live);
+    }
+    if MAX_LIVE <= live {
+        return refused_in(17, count, live);
+    }
+    let last = last_key(keys, live);
+    if MAX_KEY <= last.0 {
+        return refused_in(18, count, live);
+    }
+    let fired = steps::fire_in(sheet, places, count, lo, hi, l, members, t);
+    transitions[live] = t.0 as u8;
+    keys[live] = last.0 + 1;
+    moved[live] = fired.moved;
+    Done {
+        answer: Answer::Fired,
+        key: Key(last.0 + 1),
+        count: fired.count,
+        live: live + 1,
+    }
+}
+
+// Kinds 2 and 3 in place, of the firing of that key.
+fn undo_in(
+    sheet: &[u8],
+    key: Key,
+    places: &mut [Place; MAX_BASES],
+    count: usize,
+    lo: &mut [Base; MAX_BONDS],
+    hi: &mut [Base; MAX_BONDS],
+    live: usize,
+    transitions: &mut [u8; MAX_LIVE],
+    keys: &mut [u16; MAX_LIVE],
+    moved: &mut [u64; MAX_LIVE],
+    l: &mut [Base; MAX_BASES],
+    members: &mut [u64; MAX_BASES],
+) -> Done
+    requires { ⌜
+        Sound (now sheet) (recordAt (now places) count (now lo) (now hi) live (now transitions) (now keys) (now moved))
+        × Labelled (now l) (now members) (bondsIn (now lo) (now hi) count) ⌝ }
+    ensures { λ r. ⌜
+        given r (now (places .exit)) (now (lo .exit)) (now (hi .exit)) (now (transitions .exit)) (now (keys .exit)) (now (moved .exit))
+        ≡ undoOutcome (now (sheet .entry))
+        (recordAt (now (places .entry)) count (now (lo .entry)) (now (hi .entry)) live (now (transitions .entry)) (now (keys .entry)) (now (moved .entry))) key ⌝ }
+    ensures { λ r. ⌜ Labelled (now (l .exit)) (now (members .exit)) (bondsIn (now (lo .exit)) (now (hi .exit)) (r .count)) ⌝ }
+{
+    let i = index_of(keys, live, key);
+    if live <= i {
+        return refused_in(19, count, live);
+    }
+    if built_on(moved, live, i) {
+        return refused_in(20, count, live);
+    }
+    let f = firing_at(transitions, keys, moved, i);
+    let left = steps::undo_in(
+        sheet,
+        places,
+        count,
+        lo,
+        hi,
+        l,
+        members,
+        f.transition_of(),
+        f.moved,
+    );
+    close_up(transitions, keys, moved, live, i);
+    Done {
+        answer: Answer::Undone,
+        key: key,
+        count: left,
+        live: live - 1,
+    }
+}
+
+// A command in place, on a sound record and an accepted sheet: nothing of either is checked again. The labels go with the
+// record from command to command: they are those of its bonds before and after.
+pub fn perform_in(
+    sheet: &[u8],
+    bytes: &[u8],
+    places: &mut [Place; MAX_BASES],
+    count: usize,
+    lo: &mut [Base; MAX_BONDS],
+    hi: &mut [Base; MAX_BONDS],
+    live: usize,
+    transitions: &mut [u8; MAX_LIVE],
+    keys: &mut [u16; MAX_LIVE],
+    moved: &mut [u64; MAX_LIVE],
+    l: &mut [Base; MAX_BASES],
+    members: &mut [u64; MAX_BASES],
+) -> Done
+    requires { ⌜
+        Sound (now sheet) (recordAt (now places) count (now lo) (now hi) live (now transitions) (now keys) (now moved))
+        × Labelled (now l) (now members) (bondsIn (now lo) (now hi) count) ⌝ }
+    ensures { λ r. ⌜
+        given r (now (places .exit)) (now (lo .exit)) (now (hi .exit)) (now (transitions .exit)) (now (keys .exit)) (now (moved .exit))
+        ≡ performOf (now (sheet .entry))
+        (recordAt (now (places .entry)) count (now (lo .entry)) (now (hi .entry)) live (now (transitions .entry)) (now (keys .entry)) (now (moved .entry)))
+        (now (bytes .entry)) ⌝ }
+    ensures { λ r. ⌜ Labelled (now (l .exit)) (now (members .exit)) (bondsIn (now (lo .exit)) (now (hi .exit)) (r .count)) ⌝ }
+{
+    if bytes.len() < 3 {
+        return refused_in(21, count, live);
+    }
+    let read = decode(bytes);
+    let Decoded::Given(c) = read else {
+        return refused_in(11, count, live);
+    };
+    match c {
+        Command::Fire(t) => {
+            fire_in(
+                sheet,
+                t,
+                places,
+                count,
+                lo,
+                hi,
+                live,
+                transitions,
+                keys,
+                moved,
+                l,
+                members,
+            )
+        }
+        Command::Undo(k) => {
+            undo_in(
+                sheet,
+                k,
+                places,
+                count,
+                lo,
+                hi,
+                live,
+                transitions,
+                keys,
+                moved,
+                l,
+                members,
+            )
+        }
+        Command::UndoLast => {
+            let k = last_key(keys, live);
+            undo_in(
+                sheet,
+                k,
+                places,
+                count,
+                lo,
+                hi,
+                live,
+                transitions,
+                keys,
+                moved,
+                l,
+                members,
+            )
+        }
+    }
+}
+
 impl Record {
     // A refused command: the very record, and key 0.
     fn refused(self, n: u8) -> Outcome
@@ -132,92 +343,56 @@ impl Record {
         }
     }
 
-    // Kind 1. The record is sound and the sheet accepted, here and in the inner methods below: answer sees to it.
-    fn fire(self, sheet: &[u8], t: Transition) -> Outcome
-        requires { ⌜ Sound (now sheet) self ⌝ }
-        ensures { λ r. ⌜ r ≡ fireOutcome (now (sheet .entry)) self t ⌝ }
-    {
-        let m = self.marking;
-        let live = self.live;
-        let firings = self.firings;
-        let refusal = enable_refusal(sheet, m, t);
-        if refusal != 0 {
-            return self.refused(refusal);
-        }
-        if MAX_LIVE <= live {
-            return self.refused(17);
-        }
-        let last = last_key(firings, live);
-        if MAX_KEY <= last.0 {
-            return self.refused(18);
-        }
-        let moved = moved_by(sheet, m, t);
-        let mut next = self;
-        next.marking = fired(sheet, m, t);
-        next.live = live + 1;
-        next.firings[live] = Firing {
-            transition: t.0 as u8,
-            key: Key(last.0 + 1),
-            moved: moved,
-        };
-        Outcome {
-            answer: Answer::Fired,
-            key: Key(last.0 + 1),
-            session: next,
-        }
-    }
-
-    // Kinds 2 and 3, of the firing of that key.
-    fn undo(self, sheet: &[u8], key: Key) -> Outcome
-        requires { ⌜ Sound (now sheet) self ⌝ }
-        ensures { λ r. ⌜ r ≡ undoOutcome (now (sheet .entry)) self key ⌝ }
-    {
-        let m = self.marking;
-        let live = self.live;
-        let firings = self.firings;
-        let i = index_of(firings, live, key);
-        if live <= i {
-            return self.refused(19);
-        }
-        if built_on(firings, live, i) {
-            return self.refused(20);
-        }
-        let f = firings[i];
-        let moved = f.moved;
-        let before = undone(sheet, m, f.transition_of(), moved);
-        let left = closed_up(firings, live, i);
-        Outcome {
-            answer: Answer::Undone,
-            key: key,
-            session: Record {
-                marking: before,
-                live: live - 1,
-                firings: left,
-            },
-        }
-    }
-
-    // A command on a sound record and an accepted sheet: nothing of either is checked again.
-    pub fn perform(self, sheet: &[u8], bytes: &[u8]) -> Outcome
+    // A command on a sound record and an accepted sheet: the record's arrays are lent, and put together again.
+    // `answer` has seen that the record is sound.
+    fn perform(self, sheet: &[u8], bytes: &[u8]) -> Outcome
         requires { ⌜ Sound (now sheet) self ⌝ }
         ensures { λ r. ⌜ r ≡ performOf (now (sheet .entry)) self (now (bytes .entry)) ⌝ }
     {
-        if bytes.len() < 3 {
-            return self.refused(21);
-        }
-        let read = decode(bytes);
-        let Decoded::Given(c) = read else {
-            return self.refused(11);
-        };
-        match c {
-            Command::Fire(t) => self.fire(sheet, t),
-            Command::Undo(k) => self.undo(sheet, k),
-            Command::UndoLast => {
-                let firings = self.firings;
-                let live = self.live;
-                let last = last_key(firings, live);
-                self.undo(sheet, last)
-            }
+        let m = self.marking;
+        let mut places = m.places;
+        let mut lo = m.lo;
+        let mut hi = m.hi;
+        let f = self.firings;
+        let mut transitions = f.transitions;
+        let mut keys = f.keys;
+        let mut moved = f.moved;
+        let mut l = [0u8; MAX_BASES];
+        let mut members = [0u64; MAX_BASES];
+        label_in(&mut l, &mut members, &lo, &hi, m.count);
+        let done = perform_in(
+            sheet,
+            bytes,
+            &mut places,
+            m.count,
+            &mut lo,
+            &mut hi,
+            f.live,
+            &mut transitions,
+            &mut keys,
+            &mut moved,
+            &mut l,
+            &mut members,
+        );
+        let answer = done.answer;
+        let key = done.key;
+        Outcome {
+            answer: answer,
+            key: key,
+            session: Record {
+                marking: Marking {
+                    places: places,
+                    count: done.count,
+                    lo: lo,
+                    hi: hi,
+                },
+                firings: Firings {
+                    live: done.live,
+                    transitions: transitions,
+                    keys: keys,
+                    moved: moved,
+                },
+            },
         }
     }
 
@@ -231,9 +406,18 @@ impl Record {
             return self.refused(refusal);
         }
         let m = self.marking;
-        let live = self.live;
-        let firings = self.firings;
-        if !is_sound(sheet, m, firings, live) {
+        let f = self.firings;
+        if !is_sound(
+            sheet,
+            f.live,
+            &f.transitions,
+            &f.keys,
+            &f.moved,
+            &m.places,
+            m.count,
+            &m.lo,
+            &m.hi,
+        ) {
             return self.refused(10);
         }
         self.perform(sheet, bytes)

@@ -2,18 +2,18 @@
 -- Assumes nothing.
 use mathlib.Core.Path.{_≡_, sym, _∙_, ap}
 use mathlib.Core.Bool.{Bool, false}
-use mathlib.Core.List.{List}
+use mathlib.Core.List.{List, []}
 use Prim.Native.Nat.{ℕ}
 use lib.ListN.{replicate}
-use Rattle.net.specs.Limits.{maxBases, maxBonds, maxLive}
+use Rattle.net.specs.Limits.{maxBases, maxBonds}
 use Rattle.net.specs.Tests.{pick}
 use Rattle.net.specs.Checks.{clear, first}
 use Rattle.format.specs.NetOf.{startMarking, netOf}
 use Rattle.sheet.specs.Checks.{sheetChecks}
 use Rattle.marking.specs.Form.{laid}
 use Rattle.marking.specs.declared.Marking.{Marking}
-use Rattle.firings.specs.Lines.{noFiring}
-use Rattle.firings.specs.declared.Firing.{Firing}
+use Rattle.firings.specs.Lines.{firingsOf}
+use Rattle.firings.specs.declared.Firings.{Firings}
 use Rattle.session.specs.Records.{recordOf}
 use Rattle.session.specs.Commands.{freshOf, zeroRecord, startOf}
 use Rattle.session.specs.declared.Record.{Record}
@@ -21,10 +21,10 @@ use Rattle.session.specs.declared.StartAnswer.the-variants.{Started, NotStarted
 use Rattle.session.proofs.Answering.{sheet-clear, sheet-held}
 
 -- zeros in every array
-pub zeros : (f : Firing) → f ≡ noFiring
-    → record { marking = record { places = replicate maxBases 0; count = 0; lo = replicate maxBonds 0; hi = replicate maxBonds 0 }; live = 0; firings = replicate maxLive f } ≡ zeroRecord
+pub zeros : (f : Firings) → f ≡ firingsOf []
+    → record { marking = record { places = replicate maxBases 0; count = 0; lo = replicate maxBonds 0; hi = replicate maxBonds 0 }; firings = f } ≡ zeroRecord
 unfolding zeroRecord recordOf
-zeros f e = λ i. record { marking = record { places = replicate maxBases 0; count = 0; lo = replicate maxBonds 0; hi = replicate maxBonds 0 }; live = 0; firings = replicate maxLive (e i) }
+zeros f e = λ i. record { marking = record { places = replicate maxBases 0; count = 0; lo = replicate maxBonds 0; hi = replicate maxBonds 0 }; firings = e i }
 
 module _ (s : List ℕ) (n : ℕ) (e : n ≡ first (sheetChecks s)) where
   pub refused : (r : Record) → (n ≡ 0 → ⊥) → r ≡ zeroRecord → record { answer = NotStarted n; session = r } ≡ startOf s
@@ -33,8 +33,8 @@ module _ (s : List ℕ) (n : ℕ) (e : n ≡ first (sheetChecks s)) where
       let q : clear (sheetChecks s) ≡ false = sheet-held s n e h in
       (λ i. record { answer = NotStarted (e i); session = z i }) ∙ sym (ap (λ (b : Bool). pick b (record { answer = Started; session = freshOf s }) (record { answer = NotStarted (first (sheetChecks s)); session = zeroRecord })) q)
 
-  pub started : (m : Marking) (f : Firing) → n ≡ 0 → m ≡ laid (startMarking s) → f ≡ noFiring → record { answer = Started; session = record { marking = m; live = 0; firings = replicate maxLive f } } ≡ startOf s
+  pub started : (m : Marking) (f : Firings) → n ≡ 0 → m ≡ laid (startMarking s) → f ≡ firingsOf [] → record { answer = Started; session = record { marking = m; firings = f } } ≡ startOf s
   unfolding startOf freshOf recordOf netOf
   started m f h em ef =
-      (λ i. record { answer = Started; session = record { marking = em i; live = 0; firings = replicate maxLive (ef i) } })
+      (λ i. record { answer = Started; session = record { marking = em i; firings = ef i } })
       ∙ sym (ap (λ (b : Bool). pick b (record { answer = Started; session = freshOf s }) (record { answer = NotStarted (first (sheetChecks s)); session = zeroRecord })) (sheet-clear s n e h))

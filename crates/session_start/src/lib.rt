@@ -1,10 +1,12 @@
 // Starting a session on a sheet (document 01, the session book; the turned-away list): the fresh record, or a record of
 // zeros with the sheet's refusal. Any bytes may be handed in.
 ghost use mathlib.Core.Path.{_≡_};
+ghost use mathlib.Core.List.{[]};
 ghost use Rattle.net.specs.Checks.{first};
 ghost use Rattle.sheet.specs.Checks.{sheetChecks};
+ghost use Rattle.firings.specs.Lines.{firingsOf};
 ghost use Rattle.session.specs.Commands.{zeroRecord, startOf, startNumber};
-use firings::no_firing;
+use firings::Firings;
 use fresh_marking::start_marking;
 use marking::Marking;
 use net::MAX_BASES;
@@ -15,6 +17,18 @@ use session::Start;
 use session::StartAnswer;
 use sheet::check_sheet;
 use sheet::sheet_number;
+
+// No live firing.
+fn no_firings() -> Firings
+    ensures { λ r. ⌜ r ≡ firingsOf [] ⌝ }
+{
+    Firings {
+        live: 0,
+        transitions: [0u8; MAX_LIVE],
+        keys: [0u16; MAX_LIVE],
+        moved: [0u64; MAX_LIVE],
+    }
+}
 
 // A record of zeros.
 fn zero_record() -> Record
@@ -28,8 +42,7 @@ fn zero_record() -> Record
     };
     Record {
         marking: m,
-        live: 0,
-        firings: [no_firing(); MAX_LIVE],
+        firings: no_firings(),
     }
 }
 
@@ -51,8 +64,7 @@ pub fn start(sheet: &[u8]) -> Start
         answer: StartAnswer::Started,
         session: Record {
             marking: m,
-            live: 0,
-            firings: [no_firing(); MAX_LIVE],
+            firings: no_firings(),
         },
     }
 }

@@ -52,10 +52,8 @@ pub fn unplayed(r: Record) -> Counted {
 // The record with another key in a firing.
 pub fn with_key(r: Record, i: usize, key: u16) -> Record {
     let mut next = r;
-    let at = i % 256;
-    let mut f = r.firings[at];
-    let k = Key(key);
-    f.key = k;
-    next.firings[at] = f;
+    let mut f = r.firings;
+    f.keys[i % 256] = key;
+    next.firings = f;
     next
 }

@@ -14,8 +14,9 @@ use Rattle.net.specs.Journal.{LiveLine, lineKeys}
 use Rattle.net.specs.History.{keysInOrder}
 use Rattle.net.proofs.Tests.{same-test, and-l, and-r, and-i}
 use Rattle.firings.specs.Lines.{linesIn}
-use Rattle.firings.specs.Form.{liveKeys, climbs}
-use Rattle.firings.specs.declared.Firing.{Firing}
+use Rattle.firings.specs.Form.{climbs}
+use Rattle.firings.specs.Search.{keysIn}
+use Rattle.firings.specs.declared.Firings.{Firings}
 use Rattle.firings.proofs.Search.{keys-of-lines}
 
 abbrev keyBelow : LiveLine → LiveLine → Bool
@@ -51,8 +52,8 @@ order-climbs (l ∷ ls) h =
     let r : all inRange (l ∷ ls) ≡ true = and-r (ascends keyBelow (l ∷ ls)) _ h in
     ascends-climbs 0 l ls (and-l _ _ (and-l (inRange l) _ r)) (and-l _ _ h) r
 
-pub keys-order : (n k : ℕ) (fs : List Firing) → climbs 0 (liveKeys k fs) ≡ keysInOrder (linesIn n k fs)
-keys-order n k fs =
-    let ls : List LiveLine = linesIn n k fs in
-    let same : liveKeys k fs ≡ lineKeys ls = keys-of-lines n k fs in
+pub keys-order : (n : ℕ) (f : Firings) → climbs 0 (keysIn (f .live) (f .keys)) ≡ keysInOrder (linesIn n f)
+keys-order n f =
+    let ls : List LiveLine = linesIn n f in
+    let same : keysIn (f .live) (f .keys) ≡ lineKeys ls = keys-of-lines n f in
     ap (climbs 0) same ∙ same-test (climbs 0 (lineKeys ls)) (keysInOrder ls) (λ h. and-i (ascends keyBelow ls) (all inRange ls) (climbs-ascends 0 ls h) (climbs-range 0 ls h)) (order-climbs ls)

@@ -2,14 +2,15 @@
 -- Assumes nothing.
 use mathlib.Core.Path.{_≡_, refl, sym, _∙_, ap}
 use mathlib.Core.Bool.{Bool, true, false, _&&_, Bool·beq}
-use mathlib.Core.List.{List, _∷_}
-use Prim.Native.Nat.{ℕ, suc, _+_, _*_, _-_, _<_, _≤_}
+use mathlib.Core.List.{List, [], _∷_}
+use Prim.Native.Nat.{ℕ, suc, _+_, _*_, _-_, _^_, _<_, _≤_}
 use native.Mathlib.Omega.{arith}
 use native.Mathlib.Numerals.{add-one}
 use lib.Dec.{eqb}
-use lib.ListN.{length, getD, take, drop, drop-of-length-le}
-use lib.Seq.{drop-cons, take-at}
-use borrow.Author.Tests.{eq-eqb, ne-eqb, leb-false}
+use lib.ListN.{length, getD, drop, drop-of-length-le}
+use lib.Seq.{drop-cons}
+use borrow.Author.Tests.{eqb-true, eq-eqb, ne-eqb, leb-false}
+use Rattle.causal.proofs.Tests.{both}
 use Rattle.net.specs.Limits.{maxBases, maxBonds}
 use Rattle.net.specs.Tests.{sameList}
 use Rattle.net.specs.Net as Net
@@ -17,10 +18,10 @@ use Rattle.net.specs.Net.{Net, arcsOf}
 use Rattle.net.specs.Marking.{Good}
 use Rattle.net.specs.Firing.{moves, moved, fire}
 use Rattle.net.specs.Checks.{clear, first}
-use Rattle.net.specs.Journal.{LiveLine, enableChecks}
+use Rattle.net.specs.Journal.{LiveLine, noLine, enableChecks}
 use Rattle.net.specs.History.{sameMarking, accepts, replays}
 use Rattle.net.specs.declared.Transition.{Transition}
-use Rattle.net.proofs.Tests.{and-l}
+use Rattle.net.proofs.Tests.{and-l, same-test, same-e, same-i, beq-e, beq-i}
 use Rattle.net.proofs.Tables.{length-table, getD-table}
 use Rattle.net.proofs.Checks.{clear-off}
 use Rattle.net.proofs.Fire.{fire-good}
@@ -28,11 +29,17 @@ use Rattle.format.specs.Parts.{basesOf, transitionsOf}
 use Rattle.format.specs.NetOf.{netOf}
 use Rattle.sheet.specs.Checks.{sheetChecks}
 use Rattle.sheet.proofs.Order.{clear-first}
-use Rattle.marking.specs.Form.{bondsOf, markingOf, laid, flags}
+use Rattle.words.specs.Sets.{setOf, packed}
+use Rattle.words.proofs.Bits.{set-packed, packed-set}
+use Rattle.marking.specs.Form.{bondsOf, markingOf, laid}
 use Rattle.marking.specs.declared.Marking.{Marking}
 use Rattle.marking.proofs.Forms.{marking-laid}
-use Rattle.firings.specs.Lines.{asLine, linesIn, past}
+use Rattle.marking.proofs.Lent.{lo-length, hi-length}
+use Rattle.firings.specs.Lines.{firingAt, asLine, linesIn}
 use Rattle.firings.specs.declared.Firing.{Firing}
+use Rattle.firings.specs.declared.Firings.{Firings}
+use Rattle.enabling.specs.Ready.{Ready}
+use Rattle.enabling.proofs.Readiness.{in-order, ends-low}
 use Rattle.steps.specs.Placed.{Placed}
 use Rattle.steps.proofs.Arcs.{arcs-of, count-of}
 use Rattle.steps.proofs.Readiness.{few-bases, fit}
@@ -71,11 +78,39 @@ placed-room s m P =
     let most : 2 * length (bondsOf m) ≤ maxBases * (maxBases - 1) = bonds-fit (basesOf s) maxBases (few-bases s m P) (bondsOf m) (P .good .order) (P .good .range) in
     omega arith
 
+-- what is known of the marking alone, with no transition
+placed-ready : (s : List ℕ) (m : Marking) → Placed s m → Ready (basesOf s) (record { entries = []; inBonds = []; outBonds = [] }) m
+unfolding netOf
+placed-ready s m P = record {
+  few = few-bases s m P;
+  form = P .form;
+  order = P .good .order;
+  range = P .good .range;
+  bases = λ e h. absurd h;
+  outs = λ b h. both false h refl;
+}
+
+-- what labels of its bonds ask: they fit, and their ends are below the limit
+pub placed-fits : (s : List ℕ) (m : Marking) → Placed s m → (m .count ≤ length (m .lo)) × (m .count ≤ length (m .hi))
+placed-fits s m P =
+    let I = in-order (basesOf s) (record { entries = []; inBonds = []; outBonds = [] }) m (placed-ready s m P) in
+    (rw (lo-length m I) (I .room), rw (hi-length m I) (I .room))
+
+pub placed-ends : (s : List ℕ) (m : Marking) → Placed s m → (i : ℕ) → i < m .count → (getD (m .lo) i 0 < maxBases) × (getD (m .hi) i 0 < maxBases)
+placed-ends s m P = ends-low (basesOf s) (record { entries = []; inBonds = []; outBonds = [] }) m (placed-ready s m P)
+
 -- ---- a firing as a line
 
--- the flags of a set of bases, cut to the bases, are the set
-pub take-flags : (n : ℕ) (l : List Bool) → length l ≡ n → take n (flags l) ≡ l
-take-flags n l e = take-at l _ n e
+-- the word of a set is that of a firing in its form exactly where the sets are the same
+same-word : (n w x : ℕ) (l : List Bool) → x < 2 ^ n → length l ≡ n → w ≡ packed l → eqb w x ≡ sameList Bool·beq (setOf n x) l
+same-word n w x l h size e = same-test (eqb w x) (sameList Bool·beq (setOf n x) l)
+    (λ q.
+    let y : x ≡ packed l = sym (eqb-true w x q) ∙ e in
+    let z : setOf n x ≡ l = ap (setOf n) y ∙ ap (λ (k : ℕ). setOf k (packed l)) (sym size) ∙ set-packed l in
+    ap (λ (k : List Bool). sameList Bool·beq k l) z ∙ same-i Bool·beq beq-i l)
+    (λ q.
+    let z : setOf n x ≡ l = same-e Bool·beq beq-e (setOf n x) l q in
+    eq-eqb w x (e ∙ ap packed (sym z) ∙ packed-set n x h))
 
 module _ (s : List ℕ) (m : Marking) (f : Firing) where
   abbrev line : LiveLine
@@ -91,52 +126,65 @@ module _ (s : List ℕ) (m : Marking) (f : Firing) where
   pub line-clear : (r : ℕ) → r ≡ first (enableChecks (netOf s) seen (line .transition)) → r ≡ 0 → clear (enableChecks (netOf s) seen (line .transition)) ≡ true
   line-clear r e h = enabled-first (netOf s) seen (line .transition) ∙ ap (λ (k : ℕ). eqb k 0) (sym e) ∙ eq-eqb r 0 h
 
-  pub line-same : (b : Bool) (n : ℕ) (x : List Bool) → clear (enableChecks (netOf s) seen (line .transition)) ≡ true → n ≡ basesOf s
-      → x ≡ flags (moved (basesOf s) (arcsOf (netOf s) (line .transition)) seen) → b ≡ sameList Bool·beq (take n (f .moved)) (take n x) → b ≡ accepts (netOf s) seen line
+  pub line-same : (w : ℕ) → clear (enableChecks (netOf s) seen (line .transition)) ≡ true → f .moved < 2 ^ basesOf s
+      → w ≡ packed (moved (basesOf s) (arcsOf (netOf s) (line .transition)) seen) → eqb w (f .moved) ≡ accepts (netOf s) seen line
   unfolding netOf
-  line-same b n x h en ex eb =
+  line-same w h low e =
       let t = arcsOf (netOf s) (line .transition) in
-      let cut : take (basesOf s) x ≡ moved (basesOf s) t seen = ap (take (basesOf s)) ex ∙ take-flags (basesOf s) (moved (basesOf s) t seen) (length-table (basesOf s) (moves (seen .bonds) (t .entries))) in
-      eb ∙ (λ i. sameList Bool·beq (take (en i) (f .moved)) (take (en i) x)) ∙ ap (sameList Bool·beq (line .moved)) cut
+      same-word (basesOf s) w (f .moved) (moved (basesOf s) t seen) low (length-table (basesOf s) (moves (seen .bonds) (t .entries))) e
       ∙ ap (λ (c : Bool). c && sameList Bool·beq (line .moved) (moved (basesOf s) t seen)) (sym h)
 
 -- ---- the run
 
-module _ (s : List ℕ) (fs : List Firing) (live : ℕ) (z : Net.Marking) where
+module _ (s : List ℕ) (f : Firings) where
   abbrev lines : List LiveLine
-  lines = linesIn (basesOf s) live fs
+  lines = linesIn (basesOf s) f
 
-  lines-cons : (i : ℕ) → i < live → drop i lines ≡ asLine (basesOf s) (getD fs i past) ∷ drop (suc i) lines
+  abbrev lineAt : ℕ → LiveLine
+  lineAt i = asLine (basesOf s) (firingAt (f .transitions) (f .keys) (f .moved) i)
+
+  lines-cons : (i : ℕ) → i < f .live → drop i lines ≡ lineAt i ∷ drop (suc i) lines
   lines-cons i h =
       let size : i < length lines = rw length-table h in
-      drop-cons lines i (asLine (basesOf s) past) size ∙ ap (λ (l : LiveLine). l ∷ drop (suc i) lines) (getD-table live (λ j. asLine (basesOf s) (getD fs j past)) i (asLine (basesOf s) past) h)
+      drop-cons lines i noLine size ∙ ap (λ (l : LiveLine). l ∷ drop (suc i) lines) (getD-table (f .live) lineAt i noLine h)
 
   -- the run of the rest, by its first line
-  run-step : (w : Bool) (m : Marking) (i : ℕ) → i < live → w ≡ replays (netOf s) (markingOf (basesOf s) m) (drop i lines) z
-      → w ≡ (accepts (netOf s) (markingOf (basesOf s) m) (asLine (basesOf s) (getD fs i past))
-      && replays (netOf s) (fire (netOf s .bases) (arcsOf (netOf s) (asLine (basesOf s) (getD fs i past) .transition)) (markingOf (basesOf s) m)) (drop (suc i) lines) z)
-  run-step w m i h e = e ∙ ap (λ (ls : List LiveLine). replays (netOf s) (markingOf (basesOf s) m) ls z) (lines-cons i h)
+  run-step : (z : Net.Marking) (m : Marking) (i : ℕ) → i < f .live → replays (netOf s) (markingOf (basesOf s) m) (drop i lines) z
+      ≡ (accepts (netOf s) (markingOf (basesOf s) m) (lineAt i)
+      && replays (netOf s) (fire (netOf s .bases) (arcsOf (netOf s) (lineAt i .transition)) (markingOf (basesOf s) m)) (drop (suc i) lines) z)
+  run-step z m i h = ap (λ (ls : List LiveLine). replays (netOf s) (markingOf (basesOf s) m) ls z) (lines-cons i h)
 
-  pub run-stops : (w : Bool) (m : Marking) (i : ℕ) → i < live → w ≡ replays (netOf s) (markingOf (basesOf s) m) (drop i lines) z
-      → accepts (netOf s) (markingOf (basesOf s) m) (asLine (basesOf s) (getD fs i past)) ≡ false → false ≡ w
-  run-stops w m i h e a = sym (run-step w m i h e ∙ ap (λ (b : Bool). b && replays (netOf s) (fire (netOf s .bases) (arcsOf (netOf s) (asLine (basesOf s) (getD fs i past) .transition)) (markingOf (basesOf s) m)) (drop (suc i) lines) z) a)
+  pub run-stops : (z : Net.Marking) (m : Marking) (i : ℕ) → i < f .live → accepts (netOf s) (markingOf (basesOf s) m) (lineAt i) ≡ false
+      → replays (netOf s) (markingOf (basesOf s) m) (drop i lines) z ≡ false
+  run-stops z m i h a = run-step z m i h ∙ ap (λ (b : Bool). b && replays (netOf s) (fire (netOf s .bases) (arcsOf (netOf s) (lineAt i .transition)) (markingOf (basesOf s) m)) (drop (suc i) lines) z) a
 
-  pub run-goes : (w : Bool) (m m′ : Marking) (i : ℕ) → i < live → Placed s m → w ≡ replays (netOf s) (markingOf (basesOf s) m) (drop i lines) z
-      → accepts (netOf s) (markingOf (basesOf s) m) (asLine (basesOf s) (getD fs i past)) ≡ true
-      → m′ ≡ laid (fire (basesOf s) (arcsOf (netOf s) (asLine (basesOf s) (getD fs i past) .transition)) (markingOf (basesOf s) m))
-      → Placed s m′ × (w ≡ replays (netOf s) (markingOf (basesOf s) m′) (drop (i + 1) lines) z)
+  pub run-goes : (z : Net.Marking) (m m′ : Marking) (i : ℕ) → i < f .live → accepts (netOf s) (markingOf (basesOf s) m) (lineAt i) ≡ true
+      → m′ ≡ laid (fire (basesOf s) (arcsOf (netOf s) (lineAt i .transition)) (markingOf (basesOf s) m))
+      → replays (netOf s) (markingOf (basesOf s) m) (drop i lines) z ≡ replays (netOf s) (markingOf (basesOf s) m′) (drop (i + 1) lines) z
   unfolding netOf
-  run-goes w m m′ i h P e a q =
-      let t = asLine (basesOf s) (getD fs i past) .transition in
-      let y : Net.Marking = fire (basesOf s) (arcsOf (netOf s) t) (markingOf (basesOf s) m) in
-      let P′ : Placed s (laid y) = placed-fired s m t P (and-l (clear (enableChecks (netOf s) (markingOf (basesOf s) m) t)) _ a) in
-      let back : markingOf (basesOf s) m′ ≡ y = ap (markingOf (basesOf s)) q ∙ marking-laid y (basesOf s) (length-table (basesOf s) _) in (
-        rw q P′,
-        run-step w m i h e ∙ ap (λ (b : Bool). b && replays (netOf s) y (drop (suc i) lines) z) a
-            ∙ (λ j. replays (netOf s) (sym back j) (drop (sym (add-one i) j) lines) z),
-      )
+  run-goes z m m′ i h a q =
+      let y : Net.Marking = fire (basesOf s) (arcsOf (netOf s) (lineAt i .transition)) (markingOf (basesOf s) m) in
+      let back : markingOf (basesOf s) m′ ≡ y = ap (markingOf (basesOf s)) q ∙ marking-laid y (basesOf s) (length-table (basesOf s) _) in
+      run-step z m i h ∙ ap (λ (b : Bool). b && replays (netOf s) y (drop (suc i) lines) z) a
+      ∙ (λ j. replays (netOf s) (sym back j) (drop (sym (add-one i) j) lines) z)
 
-  pub run-ends : (w : Bool) (m : Marking) (i : ℕ) → live ≤ i → w ≡ replays (netOf s) (markingOf (basesOf s) m) (drop i lines) z → w ≡ sameMarking (markingOf (basesOf s) m) z
-  run-ends w m i h e =
+  -- an accepted line keeps a good marking good
+  pub placed-goes : (m m′ : Marking) (i : ℕ) → Placed s m → accepts (netOf s) (markingOf (basesOf s) m) (lineAt i) ≡ true
+      → m′ ≡ laid (fire (basesOf s) (arcsOf (netOf s) (lineAt i .transition)) (markingOf (basesOf s) m)) → Placed s m′
+  placed-goes m m′ i P a q = rw q (placed-fired s m (lineAt i .transition) P (and-l (clear (enableChecks (netOf s) (markingOf (basesOf s) m) (lineAt i .transition))) _ a))
+
+  pub run-ends : (z : Net.Marking) (m : Marking) (i : ℕ) → f .live ≤ i → replays (netOf s) (markingOf (basesOf s) m) (drop i lines) z ≡ sameMarking (markingOf (basesOf s) m) z
+  run-ends z m i h =
       let size : length lines ≤ i = rw length-table h in
-      e ∙ ap (λ (ls : List LiveLine). replays (netOf s) (markingOf (basesOf s) m) ls z) (drop-of-length-le lines size)
+      ap (λ (ls : List LiveLine). replays (netOf s) (markingOf (basesOf s) m) ls z) (drop-of-length-le lines size)
+
+-- ---- what a run answers
+
+-- a firing of it was not accepted
+pub run-refused : (w r x : Bool) → w ≡ (r && x) → r ≡ false → false ≡ w
+run-refused w r x e h = sym (e ∙ ap (λ (b : Bool). b && x) h)
+
+-- all were, and the marking after them is compared with the one that is looked for
+pub run-compared : (n k : ℕ) (m z : Marking) (w r b : Bool) → k ≡ n → w ≡ (r && sameMarking (markingOf n m) (markingOf n z)) → r ≡ true → b ≡ sameMarking (markingOf k m) (markingOf k z) → b ≡ w
+run-compared n k m z w r b e q h c =
+    c ∙ (λ i. sameMarking (markingOf (e i) m) (markingOf (e i) z)) ∙ ap (λ (x : Bool). x && sameMarking (markingOf n m) (markingOf n z)) (sym h) ∙ sym q

@@ -3,17 +3,21 @@
 use mathlib.Core.Path.{_≡_, refl, sym, _∙_, ap}
 use mathlib.Core.Bool.{Bool, true, false, _&&_, and-false}
 use mathlib.Core.List.{List}
-use Prim.Native.Nat.{ℕ, _<_, _≤_, _*_, _-_}
+use Prim.Native.Nat.{ℕ, _<_, _≤_, _*_, _-_, _^_}
 use native.Mathlib.Omega.{arith}
 use lib.Dec.{leb}
-use lib.ListN.{length}
-use borrow.Author.Tests.{le-leb, lt-leb}
+use lib.ListN.{length, getD}
+use borrow.Author.Tests.{le-leb, lt-leb, leb-true}
+use lib.Pow.{pow-pos}
 use Rattle.net.specs.Limits.{maxBases, maxLive}
 use Rattle.net.specs.Checks.{clear}
 use Rattle.net.specs.Net as Net
 use Rattle.net.specs.History.{linesInForm, replays}
 use Rattle.net.specs.Marking.{Good}
+use Rattle.net.specs.Tests.{table}
+use Rattle.net.proofs.Tests.{all-e}
 use Rattle.net.proofs.Tables.{length-table}
+use Rattle.bonds.proofs.Fill.{mem-table}
 use Rattle.net.proofs.Rules.{start-good}
 use Rattle.causal.proofs.Tests.{both}
 use Rattle.format.specs.Parts.{basesOf}
@@ -24,8 +28,9 @@ use Rattle.marking.specs.Form.{markingOf, laid, inForm}
 use Rattle.marking.specs.declared.Marking.{Marking}
 use Rattle.marking.proofs.Forms.{marking-laid}
 use Rattle.firings.specs.Lines.{linesIn}
-use Rattle.firings.specs.Form.{usedInForm, unusedInForm, liveKeys, climbs}
-use Rattle.firings.specs.declared.Firing.{Firing}
+use Rattle.firings.specs.Form.{usedInForm, firingsInForm, climbs}
+use Rattle.firings.specs.Search.{keysIn}
+use Rattle.firings.specs.declared.Firings.{Firings}
 use Rattle.marking.proofs.Room.{bonds-fit}
 use Rattle.fresh_marking.specs.Start.{StartFits}
 use Rattle.steps.specs.Placed.{Placed}
@@ -59,41 +64,46 @@ module _ (s : List ℕ) (a : clear (sheetChecks s) ≡ true) where
 
 -- ---- the tests together
 
-all-pass : (f u v w r : Bool) → (f && (u && (v && w))) ≡ true → ((f && (true && (u && v))) && ((true && w) && r)) ≡ r
-all-pass true true true true r h = refl
-all-pass true true true false r h = both false h refl
-all-pass true true false w r h = both false h refl
-all-pass true false v w r h = both false h refl
-all-pass false u v w r h = both false h refl
+all-pass : (m f w r : Bool) → (m && (f && w)) ≡ true → ((m && (true && f)) && ((true && w) && r)) ≡ r
+all-pass true true true r h = refl
+all-pass true true false r h = both false h refl
+all-pass true false w r h = both false h refl
+all-pass false f w r h = both false h refl
 
-one-fails : (f u v w r : Bool) → (f && (u && (v && w))) ≡ false → ((f && (true && (u && v))) && ((true && w) && r)) ≡ false
-one-fails true true true true r h = both true refl h
-one-fails true true true false r h = refl
-one-fails true true false w r h = refl
-one-fails true false v w r h = refl
-one-fails false u v w r h = refl
+one-fails : (m f w r : Bool) → (m && (f && w)) ≡ false → ((m && (true && f)) && ((true && w) && r)) ≡ false
+one-fails true true true r h = both true refl h
+one-fails true true false r h = refl
+one-fails true false w r h = refl
+one-fails false f w r h = refl
 
-module _ (s : List ℕ) (m : Marking) (k : ℕ) (fs : List Firing) where
-  pub too-many : maxLive < k → false ≡ soundIn s m k fs
+module _ (s : List ℕ) (m : Marking) (f : Firings) where
+  abbrev run : Bool
+  run = replays (netOf s) (netOf s .start) (linesIn (basesOf s) f) (markingOf (basesOf s) m)
+
+  pub too-many : maxLive < f .live → false ≡ soundIn s m f
   unfolding soundIn
-  too-many h = sym (ap (λ (b : Bool). (inForm (basesOf s) m && (b && (usedInForm (basesOf s) k fs && unusedInForm k fs)))
-      && (linesInForm (linesIn (basesOf s) k fs) && replays (netOf s) (netOf s .start) (linesIn (basesOf s) k fs) (markingOf (basesOf s) m))) (lt-leb k maxLive h)
-      ∙ ap (λ (b : Bool). b && (linesInForm (linesIn (basesOf s) k fs) && replays (netOf s) (netOf s .start) (linesIn (basesOf s) k fs) (markingOf (basesOf s) m))) (and-false (inForm (basesOf s) m)))
+  too-many h = sym (ap (λ (b : Bool). (inForm (basesOf s) m && (b && firingsInForm (basesOf s) f)) && (linesInForm (linesIn (basesOf s) f) && run)) (lt-leb (f .live) maxLive h)
+      ∙ ap (λ (b : Bool). b && (linesInForm (linesIn (basesOf s) f) && run)) (and-false (inForm (basesOf s) m)))
 
-  module _ (few : k ≤ maxLive) where
-    abbrev run : Bool
-    run = replays (netOf s) (netOf s .start) (linesIn (basesOf s) k fs) (markingOf (basesOf s) m)
-
+  module _ (few : f .live ≤ maxLive) where
     -- soundness, test by test
-    tests : soundIn s m k fs ≡ ((inForm (basesOf s) m && (true && (usedInForm (basesOf s) k fs && unusedInForm k fs))) && ((true && climbs 0 (liveKeys k fs)) && run))
+    tests : soundIn s m f ≡ ((inForm (basesOf s) m && (true && firingsInForm (basesOf s) f)) && ((true && climbs 0 (keysIn (f .live) (f .keys))) && run))
     unfolding soundIn
     tests =
-        let size : length (linesIn (basesOf s) k fs) ≡ k = length-table k _ in
-        λ i. (inForm (basesOf s) m && (le-leb k maxLive few i && (usedInForm (basesOf s) k fs && unusedInForm k fs)))
-        && (((ap (λ (x : ℕ). leb x maxLive) size ∙ le-leb k maxLive few) i && sym (keys-order (basesOf s) k fs) i) && run)
+        let size : length (linesIn (basesOf s) f) ≡ f .live = length-table (f .live) _ in
+        λ i. (inForm (basesOf s) m && (le-leb (f .live) maxLive few i && firingsInForm (basesOf s) f))
+        && (((ap (λ (x : ℕ). leb x maxLive) size ∙ le-leb (f .live) maxLive few) i && sym (keys-order (basesOf s) f) i) && run)
 
-    pub unsound : (inForm (basesOf s) m && (usedInForm (basesOf s) k fs && (unusedInForm k fs && climbs 0 (liveKeys k fs)))) ≡ false → false ≡ soundIn s m k fs
-    unsound h = sym (tests ∙ one-fails (inForm (basesOf s) m) (usedInForm (basesOf s) k fs) (unusedInForm k fs) (climbs 0 (liveKeys k fs)) run h)
+    pub unsound : (inForm (basesOf s) m && (firingsInForm (basesOf s) f && climbs 0 (keysIn (f .live) (f .keys)))) ≡ false → false ≡ soundIn s m f
+    unsound h = sym (tests ∙ one-fails (inForm (basesOf s) m) (firingsInForm (basesOf s) f) (climbs 0 (keysIn (f .live) (f .keys))) run h)
 
-    pub by-run : (inForm (basesOf s) m && (usedInForm (basesOf s) k fs && (unusedInForm k fs && climbs 0 (liveKeys k fs)))) ≡ true → run ≡ soundIn s m k fs
-    by-run h = sym (tests ∙ all-pass (inForm (basesOf s) m) (usedInForm (basesOf s) k fs) (unusedInForm k fs) (climbs 0 (liveKeys k fs)) run h)
+    pub by-run : (inForm (basesOf s) m && (firingsInForm (basesOf s) f && climbs 0 (keysIn (f .live) (f .keys)))) ≡ true → run ≡ soundIn s m f
+    by-run h = sym (tests ∙ all-pass (inForm (basesOf s) m) (firingsInForm (basesOf s) f) (climbs 0 (keysIn (f .live) (f .keys))) run h)
+
+-- each moved set of firings in their form is of the bases
+pub low-sets : (n : ℕ) (f : Firings) → usedInForm n f ≡ true → (i : ℕ) → i < f .live → getD (f .moved) i 0 < 2 ^ n
+low-sets n f h i k =
+    let e : leb (getD (f .moved) i 0) (2 ^ n - 1) ≡ true = all-e (λ w. leb w (2 ^ n - 1)) (table (f .live) (λ j. getD (f .moved) j 0)) h (getD (f .moved) i 0) (mem-table (f .live) (λ j. getD (f .moved) j 0) i k) in
+    let top = leb-true (getD (f .moved) i 0) (2 ^ n - 1) e in
+    let some = pow-pos n in
+    omega arith

@@ -1,4 +1,4 @@
--- Soundness of what a record holds: a marking m and the first k of an array of firings (01, commands, record, tally).
+-- Soundness of what a record holds: a marking m and live firings f (01, commands, record, tally).
 -- Definitions only. n is the number of bases.
 use mathlib.Core.Path.{_≡_}
 use mathlib.Core.Bool.{Bool, _&&_}
@@ -13,21 +13,21 @@ use Rattle.format.specs.NetOf.{netOf}
 use Rattle.marking.specs.Form.{markingOf, laid, inForm}
 use Rattle.marking.specs.declared.Marking.{Marking}
 use Rattle.firings.specs.Lines.{linesIn, firingsOf}
-use Rattle.firings.specs.Form.{usedInForm, unusedInForm}
-use Rattle.firings.specs.declared.Firing.{Firing}
+use Rattle.firings.specs.Form.{firingsInForm}
+use Rattle.firings.specs.declared.Firings.{Firings}
 
 -- the journal that they hold
-abbrev pub journalIn : ℕ → Marking → ℕ → List Firing → Journal
-journalIn n m k fs = record { marking = markingOf n m; lines = linesIn n k fs }
+abbrev pub journalIn : ℕ → Marking → Firings → Journal
+journalIn n m f = record { marking = markingOf n m; lines = linesIn n f }
 
 -- The form: bonds and live firings fit their arrays, and unused entries hold 0.
-abbrev pub formed : ℕ → Marking → ℕ → List Firing → Bool
-formed n m k fs = inForm n m && (leb k maxLive && (usedInForm n k fs && unusedInForm k fs))
+abbrev pub formed : ℕ → Marking → Firings → Bool
+formed n m f = inForm n m && (leb (f .live) maxLive && firingsInForm n f)
 
 -- Nothing is in the arrays but what they hold, laid out with 0 in every unused entry.
-abbrev pub LaidOut : ℕ → Marking → ℕ → List Firing → Type 0
-LaidOut n m k fs = (m ≡ laid (markingOf n m)) × (fs ≡ firingsOf (linesIn n k fs))
+abbrev pub LaidOut : ℕ → Marking → Firings → Type 0
+LaidOut n m f = (m ≡ laid (markingOf n m)) × (f ≡ firingsOf (linesIn n f))
 
 -- Sound for the sheet s: formed, and a sound history of its net.
-unfoldable pub soundIn : List ℕ → Marking → ℕ → List Firing → Bool
-soundIn s m k fs = formed (basesOf s) m k fs && sound (netOf s) (journalIn (basesOf s) m k fs)
+unfoldable pub soundIn : List ℕ → Marking → Firings → Bool
+soundIn s m f = formed (basesOf s) m f && sound (netOf s) (journalIn (basesOf s) m f)

@@ -1,55 +1,78 @@
 -- `bonds::rank` meets its contract.
 -- Assumes nothing.
-use mathlib.Core.Path.{_≡_, refl, sym, _∙_}
-use Prim.Native.Nat.{_-_, _≤_}
+use mathlib.Core.Path.{_≡_, sym, _∙_}
+use mathlib.Core.Bool.{true, false}
+use Prim.Native.Nat.{ℕ, _+_, _<_, _≤_, _/_}
 use native.Mathlib.Omega.{arith}
 use borrow.Author.Needs.{needs}
-use Rattle.net.specs.Net.{lessBond}
 use Rattle.net.specs.declared.Bond.{Bond}
-use Rattle.bonds.proofs.Fill.{count-more}
-use Rattle.bonds.specs.Ends.{ends, rankIn}
-use Rattle.bonds.proofs.rank.Tie as tie
+use Rattle.net.specs.Net.{sameBond, lessBond}
+use Rattle.net.proofs.Bonds.{bond-order}
+use Rattle.bonds.specs.Ends.{ends}
+use Rattle.bonds.proofs.Halves.{first-pass, below, not-below}
 use Rattle.bonds.proofs.rank.Statement.{statement}
+use Rattle.bonds.proofs.rank.Tie as tie
 
 abbrev Inv-loop : tie.InvT-loop
-Inv-loop lo hi count b n₀ i₀ n i = (i ≤ count) × (n ≤ i) × (n ≡ rankIn lo hi i b)
+Inv-loop lo hi count b from₀ n₀ from n =
+    (from + n ≤ count) × ((i : ℕ) → i < from → lessBond (ends lo hi i) b ≡ true) × ((i : ℕ) → from + n ≤ i → i < count → lessBond (ends lo hi i) b ≡ false)
 
 abbrev μ-loop : tie.MeasureT-loop
-μ-loop lo hi count b n₀ i₀ n i = count - i
+μ-loop lo hi count b from₀ n₀ from n = n
 
 loop-holds : tie.Need-loop-holds Inv-loop μ-loop
-loop-holds c = (search needs, search needs, refl)
+loop-holds c = (omega arith, λ i h. absurd (let z : ⊥ = omega arith in z), λ i h k. absurd (let z : ⊥ = omega arith in z))
 
-shared-slice-read-one-if-less : tie.Need-shared-slice-read-one-if-less Inv-loop μ-loop
-shared-slice-read-one-if-less c = search needs
+add-mid : tie.Need-add-mid Inv-loop μ-loop
+add-mid c = search needs
 
-shared-slice-read-one-if-less-2 : tie.Need-shared-slice-read-one-if-less-2 Inv-loop μ-loop
-shared-slice-read-one-if-less-2 c = search needs
+shared-slice-read-is-less : tie.Need-shared-slice-read-is-less Inv-loop μ-loop
+shared-slice-read-is-less c = search needs
 
-one-if-less-requires : tie.Need-one-if-less-requires Inv-loop μ-loop
-one-if-less-requires c κs = search needs
+shared-slice-read-is-less-2 : tie.Need-shared-slice-read-is-less-2 Inv-loop μ-loop
+shared-slice-read-is-less-2 c = search needs
 
-add-n : tie.Need-add-n Inv-loop μ-loop
-add-n c = search needs
+is-less-requires : tie.Need-is-less-requires Inv-loop μ-loop
+is-less-requires c κs = search needs
 
-add-i : tie.Need-add-i Inv-loop μ-loop
-add-i c = search needs
+add-from : tie.Need-add-from Inv-loop μ-loop
+add-from c = search needs
+
+sub-n : tie.Need-sub-n Inv-loop μ-loop
+sub-n c = search needs
+
+sub-n-2 : tie.Need-sub-n-2 Inv-loop μ-loop
+sub-n-2 c = search needs
 
 loop-less : tie.Need-loop-less Inv-loop μ-loop
 loop-less c = search needs
 
 loop-again : tie.Need-loop-again Inv-loop μ-loop
 loop-again c =
-    let s = c .before .before .before .before .before .before .before in
-    let at = c .before .before .before .before in (
-      search needs,
-      omega arith,
-      rw (at .loop .inv .2, c .one-if-less .ensures .0) (sym (count-more (λ (x : Bond). lessBond x (s .args .b)) (at .loop .i)
-          (ends (s .args .lo .now) (s .args .hi .now)))),
-    )
+    let a : tie.After-is-less Inv-loop μ-loop = c .before in
+    let at : tie.At-loop Inv-loop μ-loop = a .before .before .before .before in
+    let s = at .before .before .before in
+    let f : ℕ → Bond = ends (s .args .lo .now) (s .args .hi .now) in
+    let m : ℕ = at .loop .from + at .loop .n / 2 in
+    (omega arith, below sameBond lessBond bond-order (s .args .count) f (s .pre .2) (s .args .b) m (omega arith) (sym (a .is-less .ensures) ∙ c .if1 .taken), λ i h k. at .loop .inv .2 i (omega arith) k)
+
+loop-less-2 : tie.Need-loop-less-2 Inv-loop μ-loop
+loop-less-2 c = search needs
+
+loop-again-2 : tie.Need-loop-again-2 Inv-loop μ-loop
+loop-again-2 c =
+    let a : tie.After-is-less Inv-loop μ-loop = c .before in
+    let at : tie.At-loop Inv-loop μ-loop = a .before .before .before .before in
+    let s = at .before .before .before in
+    let f : ℕ → Bond = ends (s .args .lo .now) (s .args .hi .now) in
+    let m : ℕ = at .loop .from + at .loop .n / 2 in
+    (omega arith, at .loop .inv .1, λ i h k. not-below sameBond lessBond bond-order (s .args .count) f (s .pre .2) (s .args .b) m (sym (a .is-less .ensures) ∙ c .if1 .left) i h k)
 
 returns : tie.Need-returns Inv-loop μ-loop
-returns c = let e : c .before .loop .i ≡ c .before .before .before .before .args .count = omega arith in c .before .loop .inv .2 ∙ rw e
+returns c =
+    let at : tie.At-loop Inv-loop μ-loop = c .before in
+    let s = at .before .before .before in
+    sym (first-pass (λ (x : Bond). lessBond x (s .args .b)) (s .args .count) (at .loop .from) (ends (s .args .lo .now) (s .args .hi .now)) (omega arith) (at .loop .inv .1) (λ i h k. at .loop .inv .2 i (omega arith) k))
 
 pub rank-spec : {M : Type 1} → statement M
 rank-spec =
@@ -58,11 +81,15 @@ rank-spec =
     Inv-loop
     μ-loop
     loop-holds
-    shared-slice-read-one-if-less
-    shared-slice-read-one-if-less-2
-    one-if-less-requires
-    add-n
-    add-i
+    add-mid
+    shared-slice-read-is-less
+    shared-slice-read-is-less-2
+    is-less-requires
+    add-from
+    sub-n
+    sub-n-2
     loop-less
     loop-again
+    loop-less-2
+    loop-again-2
     returns)

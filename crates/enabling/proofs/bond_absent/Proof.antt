@@ -5,21 +5,21 @@ use mathlib.Core.Bool.{not}
 use Prim.Native.Nat.{_-_, _≤_}
 use native.Mathlib.Omega.{arith}
 use borrow.Author.Needs.{needs}
-use Rattle.net.proofs.Tables.{any-more}
-use Rattle.net.specs.declared.Bond.{Bond}
-use Rattle.net.specs.Net.{hasBond}
 use Rattle.net.specs.Tests.{any, table}
+use Rattle.net.specs.Net.{hasBond}
+use Rattle.net.specs.declared.Bond.{Bond}
+use Rattle.net.proofs.Tables.{any-more}
 use Rattle.format.specs.Arcs.{inCount, nthInBond}
-use Rattle.marking.specs.Form.{bondsOf}
+use Rattle.bonds.specs.Ends.{bondsIn}
 use Rattle.enabling.proofs.bond_absent.Tie as tie
 use Rattle.enabling.proofs.bond_absent.Statement.{statement}
 
 abbrev Inv-loop : tie.InvT-loop
-Inv-loop step m count held found₀ i₀ found i = (count ≡ inCount step) × (i ≤ count) ×
-    (found ≡ any (λ (b : Bond). not (hasBond b (bondsOf m))) (table i (nthInBond step)))
+Inv-loop step lo hi count asked found₀ i₀ found i = (asked ≡ inCount step) × (i ≤ asked) ×
+    (found ≡ any (λ (b : Bond). not (hasBond b (bondsIn lo hi count))) (table i (nthInBond step)))
 
 abbrev μ-loop : tie.MeasureT-loop
-μ-loop step m count held found₀ i₀ found i = count - i
+μ-loop step lo hi count asked found₀ i₀ found i = asked - i
 
 in-count-requires : tie.Need-in-count-requires Inv-loop μ-loop
 in-count-requires c κs = search needs
@@ -41,16 +41,19 @@ loop-less c = search needs
 
 loop-again : tie.Need-loop-again Inv-loop μ-loop
 loop-again c =
-    let s = c .before .before .before .before .before .before .before .before .before .before .before in
-    let at = c .before .before .before .before .before .before .before .before in (
+    let b : tie.After-in-bond Inv-loop μ-loop = c .before .before .before in
+    let at : tie.At-loop Inv-loop μ-loop = b .before .before in
+    let s = at .before .before .before in (
       search needs,
       search needs,
-      rw (at .loop .inv .2, c .has-bond .ensures, c .before .before .before .before .before .before .in-bond .ensures)
-          (sym (any-more (λ (b : Bond). not (hasBond b (bondsOf (s .args .t2)))) (at .loop .i) (nthInBond (s .args .step .now)))),
+      rw (at .loop .inv .2, c .has-bond .ensures, b .in-bond .ensures)
+          (sym (any-more (λ (d : Bond). not (hasBond d (bondsIn (s .args .lo .now) (s .args .hi .now) (s .args .count)))) (at .loop .i)
+          (nthInBond (s .args .step .now)))),
     )
 
 returns : tie.Need-returns Inv-loop μ-loop
-returns c = λ n. let e : c .before .loop .i ≡ inCount (c .before .before .before .before .args .step .now) = omega arith in c .before .loop .inv .2 ∙ rw e
+returns c =
+    λ n places. let e : c .before .loop .i ≡ inCount (c .before .before .before .before .args .step .now) = omega arith in c .before .loop .inv .2 ∙ rw e
 
 pub bond-absent-spec : {M : Type 1} → statement M
 bond-absent-spec =

@@ -5,21 +5,21 @@ use mathlib.Core.Bool.{not, _&&_}
 use Prim.Native.Nat.{_-_, _≤_}
 use native.Mathlib.Omega.{arith}
 use borrow.Author.Needs.{needs}
-use Rattle.net.proofs.Tables.{any-more}
-use Rattle.net.specs.declared.Bond.{Bond}
-use Rattle.net.specs.Net.{hasBond}
 use Rattle.net.specs.Tests.{any, table}
+use Rattle.net.specs.Net.{hasBond}
+use Rattle.net.specs.declared.Bond.{Bond}
+use Rattle.net.proofs.Tables.{any-more}
 use Rattle.format.specs.Arcs.{outCount, nthOutBond, arcsIn}
-use Rattle.marking.specs.Form.{bondsOf}
+use Rattle.bonds.specs.Ends.{bondsIn}
 use Rattle.enabling.proofs.bond_present.Tie as tie
 use Rattle.enabling.proofs.bond_present.Statement.{statement}
 
 abbrev Inv-loop : tie.InvT-loop
-Inv-loop step m count held found₀ i₀ found i = (count ≡ outCount step) × (i ≤ count) ×
-    (found ≡ any (λ (b : Bond). not (hasBond b (arcsIn step .inBonds)) && hasBond b (bondsOf m)) (table i (nthOutBond step)))
+Inv-loop step lo hi count made found₀ i₀ found i = (made ≡ outCount step) × (i ≤ made) ×
+    (found ≡ any (λ (b : Bond). not (hasBond b (arcsIn step .inBonds)) && hasBond b (bondsIn lo hi count)) (table i (nthOutBond step)))
 
 abbrev μ-loop : tie.MeasureT-loop
-μ-loop step m count held found₀ i₀ found i = count - i
+μ-loop step lo hi count made found₀ i₀ found i = made - i
 
 out-count-requires : tie.Need-out-count-requires Inv-loop μ-loop
 out-count-requires c κs = search needs
@@ -44,22 +44,21 @@ loop-less c = search needs
 
 loop-again : tie.Need-loop-again Inv-loop μ-loop
 loop-again c =
-    let s = c .before .before .before .before .before .before .before .before .before .before .before .before in
-    let at = c .before .before .before .before .before .before .before .before .before in (
+    let k : tie.After-is-in-bond Inv-loop μ-loop = c .before .before .before in
+    let b : tie.After-out-bond Inv-loop μ-loop = k .before in
+    let at : tie.At-loop Inv-loop μ-loop = b .before .before in
+    let s = at .before .before .before in (
       search needs,
       search needs,
-      rw (
-        at .loop .inv .2,
-        c .has-bond .ensures,
-        c .before .before .before .before .before .before .is-in-bond .ensures,
-        c .before .before .before .before .before .before .before .out-bond .ensures,
-      )
-          (sym (any-more (λ (b : Bond). not (hasBond b (arcsIn (s .args .step .now) .inBonds)) && hasBond b (bondsOf (s .args .t2))) (at .loop .i)
-          (nthOutBond (s .args .step .now)))),
+      rw (at .loop .inv .2, c .has-bond .ensures, k .is-in-bond .ensures, b .out-bond .ensures)
+          (sym (any-more
+          (λ (d : Bond). not (hasBond d (arcsIn (s .args .step .now) .inBonds)) && hasBond d (bondsIn (s .args .lo .now) (s .args .hi .now) (s .args .count)))
+          (at .loop .i) (nthOutBond (s .args .step .now)))),
     )
 
 returns : tie.Need-returns Inv-loop μ-loop
-returns c = λ n. let e : c .before .loop .i ≡ outCount (c .before .before .before .before .args .step .now) = omega arith in c .before .loop .inv .2 ∙ rw e
+returns c =
+    λ n places. let e : c .before .loop .i ≡ outCount (c .before .before .before .before .args .step .now) = omega arith in c .before .loop .inv .2 ∙ rw e
 
 pub bond-present-spec : {M : Type 1} → statement M
 bond-present-spec =

@@ -1,38 +1,32 @@
 -- `enabling::misplaced` meets its contract.
 -- Assumes nothing.
-use mathlib.Core.Path.{subst, _≡_, refl, sym, _∙_}
-use mathlib.Core.Bool.{not}
-use Prim.Native.Nat.{_-_, _<_, _≤_}
+use mathlib.Core.Path.{_≡_, refl, sym, _∙_, subst}
+use mathlib.Core.Bool.{Bool, not}
+use mathlib.Core.List.{List}
+use Prim.Native.Nat.{ℕ, _-_, _<_, _≤_}
 use native.Mathlib.Omega.{arith}
 use lib.Dec.{eqb}
 use lib.ListN.{getD}
 use borrow.Author.Needs.{needs}
-use Rattle.net.specs.Limits.{maxBases}
-use Rattle.net.proofs.Tables.{any-more}
-use Rattle.net.specs.declared.Entry.{Entry}
 use Rattle.net.specs.Tests.{any, table}
+use Rattle.net.specs.declared.Entry.{Entry}
+use Rattle.net.proofs.Tables.{any-more}
 use Rattle.format.specs.Arcs.{entryCount, nthEntry, arcsIn}
-use Rattle.bonds.proofs.Fill.{mem-table}
-use Rattle.enabling.proofs.Grouping.{misplaced-here}
-use Rattle.enabling.proofs.Readiness.{entry-low}
+use Rattle.marking.specs.Held.{holding}
+use Rattle.groups.proofs.Moving.{table-each}
+use Rattle.enabling.proofs.Readiness.{misplaced-here}
 use Rattle.enabling.proofs.misplaced.Tie as tie
 use Rattle.enabling.proofs.misplaced.Statement.{statement}
 
+-- the entry's base is not at its in-place
+abbrev away : List ℕ → Entry → Bool
+away ps e = not (eqb (getD ps (e .base) 0) (e .from))
+
 abbrev Inv-loop : tie.InvT-loop
-Inv-loop step n m count found₀ i₀ found i = (count ≡ entryCount step) × (i ≤ count) ×
-    (found ≡ any (λ (e : Entry). not (eqb (getD (m .places) (e .base) 0) (e .from))) (table i (nthEntry step)))
+Inv-loop step n places count found₀ i₀ found i = (count ≡ entryCount step) × (i ≤ count) × (found ≡ any (away places) (table i (nthEntry step)))
 
 abbrev μ-loop : tie.MeasureT-loop
-μ-loop step n m count found₀ i₀ found i = count - i
-
--- an entry's base is below the limit
-near : (c : tie.After-entry Inv-loop μ-loop) → c .entry .result .base < maxBases
-near c =
-    let s = c .before .before .before .before .before in
-    let at = c .before .before in
-    subst (λ (e : Entry). e .base < maxBases) (sym (c .entry .ensures))
-    (entry-low (s .args .n) (arcsIn (s .args .step .now)) (s .args .t3) (s .pre) (nthEntry (s .args .step .now) (at .loop .i))
-    (mem-table (entryCount (s .args .step .now)) (nthEntry (s .args .step .now)) (at .loop .i) (omega arith)))
+μ-loop step n places count found₀ i₀ found i = count - i
 
 entry-count-requires : tie.Need-entry-count-requires Inv-loop μ-loop
 entry-count-requires c κs = search needs
@@ -47,7 +41,13 @@ cast-base : tie.Need-cast-base Inv-loop μ-loop
 cast-base c = search needs
 
 element-copy-out-found : tie.Need-element-copy-out-found Inv-loop μ-loop
-element-copy-out-found c = let h = near (c .before) in omega arith
+element-copy-out-found c =
+    let e : tie.After-entry Inv-loop μ-loop = c .before in
+    let at : tie.At-loop Inv-loop μ-loop = e .before .before in
+    let s = at .before .before .before in
+    let f = s .pre .0 in
+    let h = subst (λ (x : Entry). x .base < s .args .n) (sym (e .entry .ensures)) (s .pre .1 (at .loop .i) (omega arith)) in
+    omega arith
 
 add-i : tie.Need-add-i Inv-loop μ-loop
 add-i c = search needs
@@ -57,19 +57,23 @@ loop-less c = search needs
 
 loop-again : tie.Need-loop-again Inv-loop μ-loop
 loop-again c =
-    let s = c .before .before .before .before .before .before .before .before in
-    let at = c .before .before .before .before .before in (
+    let e : tie.After-entry Inv-loop μ-loop = c .before .before .before in
+    let at : tie.At-loop Inv-loop μ-loop = e .before .before in
+    let s = at .before .before .before in (
       search needs,
       search needs,
-      rw (at .loop .inv .2, c .before .before .before .entry .ensures)
-          (sym (any-more (λ (e : Entry). not (eqb (getD (s .args .t3 .places) (e .base) 0) (e .from))) (at .loop .i) (nthEntry (s .args .step .now)))),
+      rw (at .loop .inv .2, e .entry .ensures) (sym (any-more (away (s .args .places .now)) (at .loop .i) (nthEntry (s .args .step .now)))),
     )
 
 returns : tie.Need-returns Inv-loop μ-loop
 returns c =
-    let s = c .before .before .before .before in
-    let e : c .before .loop .i ≡ entryCount (s .args .step .now) = omega arith in
-    c .before .loop .inv .2 ∙ rw e (misplaced-here (s .args .n) (arcsIn (s .args .step .now)) (s .args .t3) (s .pre))
+    let at : tie.At-loop Inv-loop μ-loop = c .before in
+    let s = at .before .before .before in
+    let b = s .args .step .now in
+    let e : at .loop .i ≡ entryCount b = omega arith in
+    λ count lo hi. at .loop .inv .2
+    ∙ rw e (misplaced-here (s .args .n) (arcsIn b) (table-each (λ (x : Entry). x .base < s .args .n) (entryCount b) (nthEntry b) (s .pre .1))
+    (holding (s .args .places .now) count lo hi))
 
 pub misplaced-spec : {M : Type 1} → statement M
 misplaced-spec =

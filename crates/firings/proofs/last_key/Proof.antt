@@ -1,7 +1,7 @@
 -- `firings::last_key` meets its contract.
 -- Assumes nothing but the laws of proofs/.
-use Prim.Native.Nat.{_-_}
 use borrow.Author.Needs.{needs}
+use Prim.Native.Nat.{_-_}
 use borrow.Author.Tests.{eq-eqb, ne-eqb}
 use Rattle.firings.proofs.last_key.Statement.{statement}
 use Rattle.firings.proofs.last_key.Tie as tie
@@ -9,17 +9,17 @@ use Rattle.firings.proofs.last_key.Tie as tie
 returns : tie.Need-returns
 returns c = rw (eq-eqb _ _ (c .if1 .taken))
 
-sub-f : tie.Need-sub-f
-sub-f c = search needs
+sub-t4 : tie.Need-sub-t4
+sub-t4 c = search needs
 
-mul-f : tie.Need-mul-f
-mul-f c = search needs
+mul-t5 : tie.Need-mul-t5
+mul-t5 c = search needs
 
-array-copy-out-f : tie.Need-array-copy-out-f
-array-copy-out-f c = search needs
+element-copy-out-t8 : tie.Need-element-copy-out-t8
+element-copy-out-t8 c = search needs
 
 returns-2 : tie.Need-returns-2
-returns-2 c = rw (ne-eqb _ _ (c .before .before .if1 .left))
+returns-2 c = rw (ne-eqb _ _ (c .before .if1 .left))
 
 pub last-key-spec : {M : Type 1} → statement M
-last-key-spec = tie.close (tie.spec returns sub-f mul-f array-copy-out-f returns-2)
+last-key-spec = tie.close (tie.spec returns sub-t4 mul-t5 element-copy-out-t8 returns-2)

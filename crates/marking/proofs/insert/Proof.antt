@@ -8,9 +8,9 @@ use lib.ListN.{length, getD, drop}
 use borrow.Author.Needs.{needs}
 use Rattle.net.specs.Tests.{table}
 use Rattle.bonds.proofs.Fill.{fill-turn}
+use Rattle.bonds.proofs.InPlace.{fill-start, read-ahead}
 use Rattle.marking.specs.Shift.{slot}
 use Rattle.marking.proofs.Shifts.{slot-below, slot-at, slot-above}
-use Rattle.marking.proofs.InPlace.{fill-start, read-ahead}
 use Rattle.marking.proofs.insert.Tie as tie
 use Rattle.marking.proofs.insert.Statement.{statement}
 

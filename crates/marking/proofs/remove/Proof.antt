@@ -8,9 +8,9 @@ use lib.ListN.{length, getD, drop}
 use borrow.Author.Needs.{needs}
 use Rattle.net.specs.Tests.{table}
 use Rattle.bonds.proofs.Fill.{fill-turn}
+use Rattle.bonds.proofs.InPlace.{fill-start, read-ahead, fill-last}
 use Rattle.marking.specs.Shift.{gap}
 use Rattle.marking.proofs.Shifts.{gap-below, gap-from}
-use Rattle.marking.proofs.InPlace.{fill-start, read-ahead, fill-last}
 use Rattle.marking.proofs.remove.Tie as tie
 use Rattle.marking.proofs.remove.Statement.{statement}
 

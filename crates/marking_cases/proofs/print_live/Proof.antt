@@ -7,10 +7,10 @@ use Rattle.marking_cases.proofs.print_live.Statement.{statement}
 use Rattle.marking_cases.proofs.print_live.Tie as tie
 
 abbrev Inv-loop : tie.InvT-loop
-Inv-loop live firings i₀ i = i ≤ maxLive
+Inv-loop live keys i₀ i = i ≤ maxLive
 
 abbrev μ-loop : tie.MeasureT-loop
-μ-loop live firings i₀ i = maxLive - i
+μ-loop live keys i₀ i = maxLive - i
 
 slice-aggregate-write-all : tie.Need-slice-aggregate-write-all Inv-loop μ-loop
 slice-aggregate-write-all c = search needs
@@ -21,11 +21,11 @@ write-all-requires c κs = search needs
 loop-holds : tie.Need-loop-holds Inv-loop μ-loop
 loop-holds c = search needs
 
-mul-f : tie.Need-mul-f Inv-loop μ-loop
-mul-f c = search needs
+mul-print-key : tie.Need-mul-print-key Inv-loop μ-loop
+mul-print-key c = search needs
 
-array-copy-out-f : tie.Need-array-copy-out-f Inv-loop μ-loop
-array-copy-out-f c = search needs
+array-read-print-key : tie.Need-array-read-print-key Inv-loop μ-loop
+array-read-print-key c = search needs
 
 print-key-requires : tie.Need-print-key-requires Inv-loop μ-loop
 print-key-requires c κs = search needs
@@ -51,8 +51,8 @@ print-live-spec =
     slice-aggregate-write-all
     write-all-requires
     loop-holds
-    mul-f
-    array-copy-out-f
+    mul-print-key
+    array-read-print-key
     print-key-requires
     add-i
     loop-less

@@ -4,7 +4,7 @@ use borrow.Author.Needs.{needs}
 use native.Mathlib.Omega.{arith}
 use mathlib.Core.Path.{_≡_}
 use lib.ListN.{length}
-use Rattle.net.specs.Limits.{maxBonds}
+use Rattle.net.specs.Limits.{maxBonds, maxLive}
 use Rattle.output.proofs.Closing.{bonds-fit, tally-fits, closing-pieces}
 use Rattle.output.proofs.put_closing.Statement.{statement}
 use Rattle.output.proofs.put_closing.Tie as tie
@@ -28,29 +28,32 @@ put-bonds-requires c κs =
 
 put-live-keys-requires : tie.Need-put-live-keys-requires
 put-live-keys-requires c κs =
-    let m = c .before .before .before .before .before .before .before .before .before .before .before .before .before .before .before .before .before .args .r .marking in
-    (omega (arith, c .before .before .before .before .before .before .before .before .before .put-base-places .ensures .1, c .before .before .before .put-bonds .ensures .0, bonds-fit (m .lo) (m .hi) (m .count)), search needs)
+    let r = c .before .before .before .before .before .before .before .before .before .before .before .before .before .before .before .before .before .before .before .before .args .r in
+    let m = r .marking in
+    let keys : length (r .firings .keys) ≡ maxLive = search needs in
+    let few = c .before .before .before .before .before .before .before .before .before .before .before .before .before .before .before .before .before .before .before .before .pre .3 in
+    (omega (arith, c .before .before .before .before .before .before .before .before .before .before .before .before .put-base-places .ensures .1, c .before .before .before .before .before .before .put-bonds .ensures .0, bonds-fit (m .lo) (m .hi) (m .count)), few, omega (arith, keys, few))
 
 put-tally-requires : tie.Need-put-tally-requires
 put-tally-requires c κs =
-    let m = c .before .before .before .before .before .before .before .before .before .before .before .before .before .before .before .before .before .before .before .before .before .args .r .marking in
-    omega (arith, c .before .before .before .before .before .before .before .before .before .before .before .before .before .put-base-places .ensures .1, c .before .before .before .before .before .before .before .put-bonds .ensures .0, c .before .before .before .put-live-keys .ensures .1, bonds-fit (m .lo) (m .hi) (m .count))
+    let m = c .before .before .before .before .before .before .before .before .before .before .before .before .before .before .before .before .before .before .before .before .before .before .before .before .args .r .marking in
+    omega (arith, c .before .before .before .before .before .before .before .before .before .before .before .before .before .before .before .before .put-base-places .ensures .1, c .before .before .before .before .before .before .before .before .before .before .put-bonds .ensures .0, c .before .before .before .put-live-keys .ensures .1, bonds-fit (m .lo) (m .hi) (m .count))
 
 same-length : tie.Need-same-length
 same-length c = search needs
 
 returns : tie.Need-returns
 returns c =
-    let from = c .before .before .before .before .before .before .before .before .before .before .before .before .before .before .before .before .before .before .before .before .before .before .before .before in
+    let from = c .before .before .before .before .before .before .before .before .before .before .before .before .before .before .before .before .before .before .before .before .before .before .before .before .before .before .before in
     let r = from .args .r in
     let t = from .args .t in
     let m = r .marking in
-    let whole = closing-pieces (from .args .buf .now) (from .args .at) (from .args .bases) m (r .live) (r .firings) t
-    (c .before .before .before .before .before .before .before .before .before .before .before .before .before .before .before .before .put-base-places .ensures .0)
-    (c .before .before .before .before .before .before .before .before .before .before .put-bonds .ensures)
+    let whole = closing-pieces (from .args .buf .now) (from .args .at) (from .args .bases) m (r .firings) t
+    (c .before .before .before .before .before .before .before .before .before .before .before .before .before .before .before .before .before .before .before .put-base-places .ensures .0)
+    (c .before .before .before .before .before .before .before .before .before .before .before .before .before .put-bonds .ensures)
     (c .before .before .before .before .before .before .put-live-keys .ensures .0)
     (c .before .before .put-tally .ensures) in
-    (whole, omega (arith, c .before .before .before .before .before .before .before .before .before .before .before .before .before .before .before .before .put-base-places .ensures .1, c .before .before .before .before .before .before .before .before .before .before .put-bonds .ensures .0, c .before .before .before .before .before .before .put-live-keys .ensures .1, c .before .before .put-tally .ensures .0, bonds-fit (m .lo) (m .hi) (m .count), from .pre .2, tally-fits (t .fired) (t .undone) (t .refused)))
+    (whole, omega (arith, c .before .before .before .before .before .before .before .before .before .before .before .before .before .before .before .before .before .before .before .put-base-places .ensures .1, c .before .before .before .before .before .before .before .before .before .before .before .before .before .put-bonds .ensures .0, c .before .before .before .before .before .before .put-live-keys .ensures .1, c .before .before .put-tally .ensures .0, bonds-fit (m .lo) (m .hi) (m .count), from .pre .2, tally-fits (t .fired) (t .undone) (t .refused)))
 
 pub put-closing-spec : {M : Type 1} → statement M
 put-closing-spec =

@@ -26,13 +26,13 @@ returns c =
 start-marking-requires : tie.Need-start-marking-requires
 start-marking-requires c κs = start-fits (c .before .before .before .before .args .sheet .now) (sheet-clear (c .before .before .before .before .args .sheet .now) _ (c .before .sheet-number .ensures ∙ c .before .before .check-sheet .ensures .1) (c .if1 .left))
 
-no-firing-requires : tie.Need-no-firing-requires
-no-firing-requires c κs = search needs
+no-firings-requires : tie.Need-no-firings-requires
+no-firings-requires c κs = search needs
 
 returns-2 : tie.Need-returns-2
 returns-2 c =
     let number = c .before .before .before .sheet-number .ensures ∙ c .before .before .before .before .check-sheet .ensures .1 in
-    (started (c .before .before .before .before .before .before .args .sheet .now) _ number _ _ (c .before .before .if1 .left) (c .before .start-marking .ensures) (c .no-firing .ensures), sym (c .before .before .if1 .left) ∙ number)
+    (started (c .before .before .before .before .before .before .args .sheet .now) _ number _ _ (c .before .before .if1 .left) (c .before .start-marking .ensures) (c .no-firings .ensures), sym (c .before .before .if1 .left) ∙ number)
 
 pub start-spec : {M : Type 1} → statement M
 start-spec =
@@ -43,5 +43,5 @@ start-spec =
     zero-record-requires
     returns
     start-marking-requires
-    no-firing-requires
+    no-firings-requires
     returns-2)

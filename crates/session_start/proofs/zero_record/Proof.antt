@@ -6,11 +6,11 @@ use borrow.Author.Needs.{needs}
 use Rattle.session_start.proofs.zero_record.Statement.{statement}
 use Rattle.session_start.proofs.zero_record.Tie as tie
 
-no-firing-requires : tie.Need-no-firing-requires
-no-firing-requires c κs = search needs
+no-firings-requires : tie.Need-no-firings-requires
+no-firings-requires c κs = search needs
 
 returns : tie.Need-returns
-returns c = zeros _ (c .no-firing .ensures)
+returns c = zeros _ (c .no-firings .ensures)
 
 pub zero-record-spec : {M : Type 1} → statement M
-zero-record-spec = tie.close (tie.spec no-firing-requires returns)
+zero-record-spec = tie.close (tie.spec no-firings-requires returns)

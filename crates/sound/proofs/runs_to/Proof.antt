@@ -1,113 +1,111 @@
 -- `sound::runs_to` meets its contract.
 -- Assumes nothing but the laws of proofs/.
-use mathlib.Core.Bool.{true}
+use borrow.Author.Needs.{needs}
 use borrow.Author.Tests.{not-true, not-false}
-use Rattle.net.specs.Limits.{maxLive, maxBonds}
-use Rattle.net.specs.Journal.{transition}
-use Rattle.net.specs.History.{sameMarking, accepts, replays}
-use Rattle.net.proofs.Tests.{and-l}
+use native.Mathlib.Omega.{arith}
+use mathlib.Core.Path.{_≡_, sym, _∙_, ap, subst}
+use Rattle.net.specs.Net as Net
+use Rattle.net.specs.History.{replays}
+use Rattle.net.specs.Journal.{LiveLine}
 use Rattle.format.specs.Parts.{basesOf}
 use Rattle.format.specs.NetOf.{netOf}
+use Rattle.marking.specs.declared.Marking.{Marking}
 use Rattle.marking.specs.Form.{markingOf}
-use Rattle.firings.specs.Lines.{asLine, linesIn, past}
+use Rattle.marking.specs.Held.{holding}
+use Rattle.firings.specs.Lines.{lying, linesIn}
 use Rattle.steps.specs.Placed.{Placed}
 use Rattle.steps.proofs.Readiness.{few-bases}
-use Rattle.sound.proofs.Lines.{enabled-listed, placed-room, run-stops, run-goes, run-ends}
-use borrow.Author.Needs.{needs}
-use native.Mathlib.Omega.{arith}
-use mathlib.Core.Path.{_≡_, refl, sym, _∙_}
-use Prim.Native.Nat.{_-_, _≤_}
-use lib.ListN.{getD, drop}
+use mathlib.Core.List.{List}
+use Rattle.sound.proofs.Lines.{placed-fits, placed-ends, run-refused, run-compared}
+use Rattle.sound.proofs.Tests.{start-placed, start-fits, from-start}
 use Rattle.sound.proofs.runs_to.Statement.{statement}
 use Rattle.sound.proofs.runs_to.Tie as tie
 
-abbrev Inv-loop : tie.InvT-loop
-Inv-loop sheet live end firings now-at₀ i₀ now-at i =
-    (i ≤ live) × (live ≤ maxLive) × (end .count ≤ maxBonds) × Placed sheet now-at
-    × (replays (netOf sheet) (markingOf (basesOf sheet) now-at₀) (linesIn (basesOf sheet) live firings) (markingOf (basesOf sheet) end)
-    ≡ replays (netOf sheet) (markingOf (basesOf sheet) now-at) (drop i (linesIn (basesOf sheet) live firings)) (markingOf (basesOf sheet) end))
+-- the function's start, the marking that the run begins with, the lines, and the end that is looked for
+abbrev start : tie.After-start-marking → tie.Start
+start b = b .before .before
 
-abbrev μ-loop : tie.MeasureT-loop
-μ-loop sheet live end firings now-at₀ i₀ now-at i = live - i
+begin-placed : (b : tie.After-start-marking) → Placed (start b .args .sheet .now) (b .start-marking .result)
+begin-placed b = subst (λ (m : Marking). Placed (start b .args .sheet .now) m) (sym (b .start-marking .ensures)) (start-placed (start b .args .sheet .now) (start b .pre .0 .0))
 
--- a line that was accepted
-accepted : (c : tie.Else1 Inv-loop μ-loop) → accepts (netOf (c .before .before .before .before .before .before .args .sheet .now))
-    (markingOf (basesOf (c .before .before .before .before .before .before .args .sheet .now)) (c .before .before .before .before .loop .now-at))
-    (asLine (basesOf (c .before .before .before .before .before .before .args .sheet .now)) (getD (c .before .before .before .before .before .before .args .t3) (c .before .before .before .before .loop .i) past)) ≡ true
-accepted c = sym (c .before .line-accepted .ensures) ∙ not-false _ (c .if1 .left)
+abbrev lines : tie.After-start-marking → List LiveLine
+lines b = linesIn (basesOf (start b .args .sheet .now)) (lying (start b .args .live) (start b .args .transitions .now) (start b .args .keys .now) (start b .args .moved .now))
 
-loop-holds : tie.Need-loop-holds Inv-loop μ-loop
-loop-holds c = (search needs, c .before .pre .1, c .before .pre .2, c .before .pre .0, refl)
+abbrev sought : tie.After-start-marking → Net.Marking
+sought b = markingOf (basesOf (start b .args .sheet .now)) (holding (start b .args .places .now) (start b .args .count) (start b .args .lo .now) (start b .args .hi .now))
 
-mul-f : tie.Need-mul-f Inv-loop μ-loop
-mul-f c = search needs
+-- the run of the contract is the run from the marking that was read
+from-begin : (b : tie.After-start-marking) → replays (netOf (start b .args .sheet .now)) (markingOf (basesOf (start b .args .sheet .now)) (b .start-marking .result)) (lines b) (sought b)
+    ≡ replays (netOf (start b .args .sheet .now)) (netOf (start b .args .sheet .now) .start) (lines b) (sought b)
+from-begin b =
+    let s : List _ = start b .args .sheet .now in
+    ap (λ (m : Marking). replays (netOf s) (markingOf (basesOf s) m) (lines b) (sought b)) (b .start-marking .ensures) ∙ from-start s (start b .pre .0 .0) (lines b) (sought b)
 
-array-copy-out-f : tie.Need-array-copy-out-f Inv-loop μ-loop
-array-copy-out-f c = search needs
+-- after the run
+abbrev begun : tie.After-replay → tie.After-start-marking
+begun d = d .before .before .before .before .before .before .before .before .before .before .before .before .before .before
 
-line-accepted-requires : tie.Need-line-accepted-requires Inv-loop μ-loop
-line-accepted-requires c κs = c .before .before .loop .inv .3
+start-marking-requires : tie.Need-start-marking-requires
+start-marking-requires c κs = start-fits _ (c .before .pre .0 .0)
 
-returns : tie.Need-returns Inv-loop μ-loop
+slice-aggregate-label-in : tie.Need-slice-aggregate-label-in
+slice-aggregate-label-in c = search needs
+
+slice-aggregate-label-in-2 : tie.Need-slice-aggregate-label-in-2
+slice-aggregate-label-in-2 c = search needs
+
+label-in-requires : tie.Need-label-in-requires
+label-in-requires c κs =
+    let b : tie.After-start-marking = c .before .before .before .before .before .before .before in
+    let (lo, hi) = placed-fits (start b .args .sheet .now) (b .start-marking .result) (begin-placed b) in
+    ((search needs, lo, hi), placed-ends (start b .args .sheet .now) (b .start-marking .result) (begin-placed b))
+
+replay-requires : tie.Need-replay-requires
+replay-requires c κs =
+    let d : tie.After-label-in = c .before .before .before .before .before in
+    let b : tie.After-start-marking = d .before .before .before .before .before .before .before .before in
+    ((begin-placed b, d .label-in .ensures, start b .pre .0 .1), start b .pre .1)
+
+returns : tie.Need-returns
 returns c =
-    let at : tie.At-loop Inv-loop μ-loop = c .before .before .before .before in
-    run-stops (at .before .before .args .sheet .now) (at .before .before .args .t3) (at .before .before .args .live) (markingOf (basesOf (at .before .before .args .sheet .now)) (at .before .before .args .end)) _ (at .loop .now-at) (at .loop .i) (c .before .before .before .loop-test .taken) (at .loop .inv .4) (sym (c .before .line-accepted .ensures) ∙ not-true _ (c .if1 .taken))
+    let d : tie.After-replay = c .before .before in
+    let b = begun d in
+    run-refused _ (d .replay .result .accepted) _ (d .replay .ensures .0 (sought b)) (not-true _ (c .if1 .taken)) ∙ from-begin b
 
-transition-of-requires : tie.Need-transition-of-requires Inv-loop μ-loop
-transition-of-requires c κs = search needs
-
-fired-requires : tie.Need-fired-requires Inv-loop μ-loop
-fired-requires c κs =
-    let at : tie.At-loop Inv-loop μ-loop = c .before .before .before .before .before in
-    (at .loop .inv .3, rw (c .transition-of .ensures) (enabled-listed (at .before .before .args .sheet .now) (markingOf (basesOf (at .before .before .args .sheet .now)) (at .loop .now-at)) (transition (getD (at .before .before .args .t3) (at .loop .i) past .transition)) (and-l _ _ (accepted (c .before)))))
-
-add-i : tie.Need-add-i Inv-loop μ-loop
-add-i c = search needs
-
-loop-less : tie.Need-loop-less Inv-loop μ-loop
-loop-less c = search needs
-
-loop-again : tie.Need-loop-again Inv-loop μ-loop
-loop-again c =
-    let at : tie.At-loop Inv-loop μ-loop = c .before .before .before .before .before .before in
-    let (P, e) = run-goes (at .before .before .args .sheet .now) (at .before .before .args .t3) (at .before .before .args .live) (markingOf (basesOf (at .before .before .args .sheet .now)) (at .before .before .args .end)) _ (at .loop .now-at) _ (at .loop .i) (c .before .before .before .before .before .loop-test .taken) (at .loop .inv .3) (at .loop .inv .4) (accepted (c .before .before)) (rw (c .before .transition-of .ensures) at (c .fired .ensures)) in
-    (search needs, search needs, search needs, P, e)
-
-base-count-requires : tie.Need-base-count-requires Inv-loop μ-loop
+base-count-requires : tie.Need-base-count-requires
 base-count-requires c κs = search needs
 
-cast-n : tie.Need-cast-n Inv-loop μ-loop
+cast-n : tie.Need-cast-n
 cast-n c = search needs
 
-same-marking-requires : tie.Need-same-marking-requires Inv-loop μ-loop
+same-marking-requires : tie.Need-same-marking-requires
 same-marking-requires c κs =
-    let at : tie.At-loop Inv-loop μ-loop = c .before .before in
-    let e = c .base-count .ensures in
-    let h = few-bases _ _ (at .loop .inv .3) in
-    (omega arith, placed-room _ _ (at .loop .inv .3), at .loop .inv .2)
+    let k : tie.After-base-count = c .before .before .before in
+    let d : tie.After-replay = k .before .before .before in
+    let b = begun d in
+    let e = k .base-count .ensures in
+    let h = few-bases (start b .args .sheet .now) (b .start-marking .result) (begin-placed b) in
+    (omega arith, d .replay .ensures .1 (not-false _ (k .before .if1 .left)), start b .pre .0 .2)
 
-returns-2 : tie.Need-returns-2 Inv-loop μ-loop
+returns-2 : tie.Need-returns-2
 returns-2 c =
-    let at : tie.At-loop Inv-loop μ-loop = c .before .before .before in
-    c .same-marking .ensures ∙ (λ j. sameMarking (markingOf (c .before .base-count .ensures j) (at .loop .now-at)) (markingOf (c .before .base-count .ensures j) (at .before .before .args .end)))
-    ∙ sym (run-ends (at .before .before .args .sheet .now) (at .before .before .args .t3) (at .before .before .args .live) (markingOf (basesOf (at .before .before .args .sheet .now)) (at .before .before .args .end)) _ (at .loop .now-at) (at .loop .i) (c .before .before .loop-test .left) (at .loop .inv .4))
+    let k : tie.After-base-count = c .before .before .before .before in
+    let d : tie.After-replay = k .before .before .before in
+    let b = begun d in
+    run-compared (basesOf (start b .args .sheet .now)) (k .base-count .result) (holding (d .replay .last .1 .1 .1 .1 .1 .0) (d .replay .result .count) (d .replay .last .1 .1 .1 .1 .1 .1 .1 .0) (d .replay .last .1 .1 .1 .1 .1 .1 .1 .1 .0)) (holding (start b .args .places .now) (start b .args .count) (start b .args .lo .now) (start b .args .hi .now)) _ (d .replay .result .accepted) _
+    (k .base-count .ensures) (d .replay .ensures .0 (sought b)) (not-false _ (k .before .if1 .left)) (c .same-marking .ensures)
+    ∙ from-begin b
 
 pub runs-to-spec : {M : Type 1} → statement M
 runs-to-spec =
     tie.close
     (tie.spec
-    Inv-loop
-    μ-loop
-    loop-holds
-    mul-f
-    array-copy-out-f
-    line-accepted-requires
+    start-marking-requires
+    slice-aggregate-label-in
+    slice-aggregate-label-in-2
+    label-in-requires
+    replay-requires
     returns
-    transition-of-requires
-    fired-requires
-    add-i
-    loop-less
-    loop-again
     base-count-requires
     cast-n
     same-marking-requires

@@ -1,10 +1,11 @@
 -- `steps::enable_refusal` meets its contract.
--- Assumes nothing but the laws of proofs/.
-use native.Mathlib.Omega.{arith}
+-- Assumes nothing.
 use mathlib.Core.Path.{_≡_, sym, _∙_}
-use Prim.Native.Nat.{ℕ, _-_, _<_}
-use mathlib.Core.List.{List}
 use mathlib.Core.Bool.{false}
+use mathlib.Core.List.{List}
+use Prim.Native.Nat.{ℕ, _<_}
+use native.Mathlib.Omega.{arith}
+use borrow.Author.Needs.{needs}
 use Rattle.net.specs.Net as Net
 use Rattle.net.specs.Net.{Arcs, arcsOf}
 use Rattle.net.specs.Firing.{misplaced, bondAbsent, bondPresent, tornApart}
@@ -12,67 +13,93 @@ use Rattle.net.specs.declared.Transition.{Transition}
 use Rattle.format.specs.Parts.{basesOf, transitionsOf}
 use Rattle.format.specs.Arcs.{arcsIn}
 use Rattle.format.specs.NetOf.{netOf}
-use Rattle.marking.specs.Form.{markingOf}
 use Rattle.marking.specs.declared.Marking.{Marking}
+use Rattle.marking.specs.Form.{markingOf}
+use Rattle.marking.specs.Held.{holding}
 use Rattle.enabling.specs.Ready.{Ready}
-use Rattle.enabling.proofs.Readiness.{room}
-use Rattle.steps.specs.Placed.{Placed}
+use Rattle.enabling.proofs.Readiness.{room, places-length, entries-near, entries-low}
 use Rattle.steps.proofs.Refusals.{ready-at, on-net, refused-12, refused-13, refused-14, refused-15, refused-16, enabled}
-use borrow.Author.Needs.{needs}
-use Rattle.steps.proofs.enable_refusal.Statement.{statement}
 use Rattle.steps.proofs.enable_refusal.Tie as tie
+use Rattle.steps.proofs.enable_refusal.Statement.{statement}
 
--- what the readers gave, and what each test said, by place
-abbrev Sheet : tie.After-transition-bytes → List ℕ
-Sheet a = a .before .before .before .before .before .before .args .sheet .now
+abbrev At : Type 0
+At = tie.After-transition-bytes
 
-abbrev Held : tie.After-transition-bytes → Marking
-Held a = a .before .before .before .before .before .before .args .m
+-- the start, and what the callers gave
+abbrev start : At → tie.Start
+start a = a .before .before .before .before .before .before
 
-abbrev Given : tie.After-transition-bytes → Transition
-Given a = a .before .before .before .before .before .before .args .t
+abbrev sheet : At → List ℕ
+sheet a = start a .args .sheet .now
 
-abbrev Seen : tie.After-transition-bytes → Net.Marking
-Seen a = markingOf (basesOf (Sheet a)) (Held a)
+abbrev held : tie.Start → Marking
+held s = holding (s .args .places .now) (s .args .count) (s .args .lo .now) (s .args .hi .now)
 
-listed : (a : tie.After-transition-bytes) → Given a .0 < transitionsOf (Sheet a)
+abbrev given : At → Transition
+given a = start a .args .t
+
+-- what the readers gave: the number of bases, and the transition's bytes
+abbrev bases : At → ℕ
+bases a = a .before .before .before .before .base-count .result
+
+abbrev bytes : At → List ℕ
+bytes a = a .transition-bytes .result .now
+
+-- what the conditions are of: the net's arcs, and the marking
+abbrev arcs : At → Arcs
+arcs a = arcsOf (netOf (sheet a)) (given a)
+
+abbrev seen : At → Net.Marking
+seen a = markingOf (basesOf (sheet a)) (held (start a))
+
+listed : (a : At) → given a .0 < transitionsOf (sheet a)
 listed a = let e = a .before .before .before .transition-count .ensures in let h = a .before .if1 .left in omega arith
 
-placed : (a : tie.After-transition-bytes) → Placed (Sheet a) (Held a)
-placed a = a .before .before .before .before .before .before .pre
-
-ready-of : (a : tie.After-transition-bytes) → Ready (a .before .before .before .before .base-count .result) (arcsIn (a .transition-bytes .result .now)) (Held a)
-ready-of a = ready-at (Sheet a) (Held a) (Given a) _ _ (a .before .before .before .before .base-count .ensures) (a .transition-bytes .ensures) (placed a) (listed a)
+ready-of : (a : At) → Ready (bases a) (arcsIn (bytes a)) (held (start a))
+ready-of a =
+    ready-at (sheet a) (held (start a)) (given a) (bases a) (bytes a) (a .before .before .before .before .base-count .ensures) (a .transition-bytes .ensures)
+    (start a .pre .0) (listed a)
 
 -- a condition on what was read, on the net
-net-test : {X : Type 0} (f : Arcs → Net.Marking → X) (a : tie.After-transition-bytes) → f (arcsIn (a .transition-bytes .result .now)) (markingOf (a .before .before .before .before .base-count .result) (Held a))
-    ≡ f (arcsOf (netOf (Sheet a)) (Given a)) (markingOf (basesOf (Sheet a)) (Held a))
-net-test f a = on-net (Sheet a) (Held a) (Given a) _ _ (a .before .before .before .before .base-count .ensures) (a .transition-bytes .ensures) f
+net-test : {X : Type 0} (f : Arcs → Net.Marking → X) (a : At) → f (arcsIn (bytes a)) (markingOf (bases a) (held (start a))) ≡ f (arcs a) (seen a)
+net-test f a =
+    on-net (sheet a) (held (start a)) (given a) (bases a) (bytes a) (a .before .before .before .before .base-count .ensures) (a .transition-bytes .ensures) f
 
-test-13 : (c : tie.After-misplaced) → c .misplaced .result ≡ misplaced (arcsOf (netOf (Sheet (c .before))) (Given (c .before))) (Seen (c .before))
-test-13 c = c .misplaced .ensures ∙ net-test misplaced (c .before)
+-- what each test said, and that it was passed
+test-13 : (c : tie.After-misplaced) → c .misplaced .result ≡ misplaced (arcs (c .before)) (seen (c .before))
+test-13 c =
+    let a : At = c .before in
+    let s = start a in
+    c .misplaced .ensures (s .args .count) (s .args .lo .now) (s .args .hi .now) ∙ net-test misplaced a
 
-passed-13 : (c : tie.Else2) → misplaced (arcsOf (netOf (Sheet (c .before .before))) (Given (c .before .before))) (Seen (c .before .before)) ≡ false
+abbrev at-14 : tie.Else2 → At
+at-14 c = c .before .before
+
+passed-13 : (c : tie.Else2) → misplaced (arcs (at-14 c)) (seen (at-14 c)) ≡ false
 passed-13 c = sym (test-13 (c .before)) ∙ c .if2 .left
 
-test-14 : (c : tie.After-bond-absent) → c .bond-absent .result ≡ bondAbsent (arcsOf (netOf (Sheet (c .before .before .before))) (Given (c .before .before .before))) (Seen (c .before .before .before))
-test-14 c = c .bond-absent .ensures (c .before .before .before .before .before .before .before .base-count .result) ∙ net-test bondAbsent (c .before .before .before)
+test-14 : (c : tie.After-bond-absent) → c .bond-absent .result ≡ bondAbsent (arcs (at-14 (c .before))) (seen (at-14 (c .before)))
+test-14 c = let a = at-14 (c .before) in c .bond-absent .ensures (bases a) (start a .args .places .now) ∙ net-test bondAbsent a
 
-passed-14 : (c : tie.Else3) → bondAbsent (arcsOf (netOf (Sheet (c .before .before .before .before))) (Given (c .before .before .before .before))) (Seen (c .before .before .before .before)) ≡ false
+abbrev at-15 : tie.Else3 → At
+at-15 c = at-14 (c .before .before)
+
+passed-14 : (c : tie.Else3) → bondAbsent (arcs (at-15 c)) (seen (at-15 c)) ≡ false
 passed-14 c = sym (test-14 (c .before)) ∙ c .if3 .left
 
-test-15 : (c : tie.After-bond-present) → c .bond-present .result
-    ≡ bondPresent (arcsOf (netOf (Sheet (c .before .before .before .before .before))) (Given (c .before .before .before .before .before))) (Seen (c .before .before .before .before .before))
-test-15 c = c .bond-present .ensures (c .before .before .before .before .before .before .before .before .before .base-count .result) ∙ net-test bondPresent (c .before .before .before .before .before)
+test-15 : (c : tie.After-bond-present) → c .bond-present .result ≡ bondPresent (arcs (at-15 (c .before))) (seen (at-15 (c .before)))
+test-15 c = let a = at-15 (c .before) in c .bond-present .ensures (bases a) (start a .args .places .now) ∙ net-test bondPresent a
 
-passed-15 : (c : tie.Else4) → bondPresent (arcsOf (netOf (Sheet (c .before .before .before .before .before .before))) (Given (c .before .before .before .before .before .before)))
-    (Seen (c .before .before .before .before .before .before)) ≡ false
+abbrev at-16 : tie.Else4 → At
+at-16 c = at-15 (c .before .before)
+
+passed-15 : (c : tie.Else4) → bondPresent (arcs (at-16 c)) (seen (at-16 c)) ≡ false
 passed-15 c = sym (test-15 (c .before)) ∙ c .if4 .left
 
-test-16 : (c : tie.After-torn-apart) → c .torn-apart .result
-    ≡ tornApart (arcsOf (netOf (Sheet (c .before .before .before .before .before .before .before))) (Given (c .before .before .before .before .before .before .before)))
-    (Seen (c .before .before .before .before .before .before .before))
-test-16 c = c .torn-apart .ensures ∙ net-test tornApart (c .before .before .before .before .before .before .before)
+test-16 : (c : tie.After-torn-apart) → c .torn-apart .result ≡ tornApart (arcs (at-16 (c .before))) (seen (at-16 (c .before)))
+test-16 c =
+    let a = at-16 (c .before) in
+    c .torn-apart .ensures (markingOf (bases a) (held (start a))) (start a .pre .1) ∙ net-test tornApart a
 
 base-count-requires : tie.Need-base-count-requires
 base-count-requires c κs = search needs
@@ -87,37 +114,58 @@ cast-if1 : tie.Need-cast-if1
 cast-if1 c = search needs
 
 returns : tie.Need-returns
-returns c = let e = c .before .before .transition-count .ensures in let h = c .if1 .taken in refused-12 (c .before .before .before .before .before .args .sheet .now) (c .before .before .before .before .before .args .t) (markingOf (basesOf (c .before .before .before .before .before .args .sheet .now)) (c .before .before .before .before .before .args .m)) (omega arith)
+returns c =
+    let s : tie.Start = c .before .before .before .before .before in
+    let e = c .before .before .transition-count .ensures in
+    let h = c .if1 .taken in
+    refused-12 (s .args .sheet .now) (s .args .t) (markingOf (basesOf (s .args .sheet .now)) (held s)) (omega arith)
 
 transition-bytes-requires : tie.Need-transition-bytes-requires
 transition-bytes-requires c κs = search needs
 
 misplaced-requires : tie.Need-misplaced-requires
-misplaced-requires c κs = ready-of c
+misplaced-requires c κs = let R = ready-of c in (R .few, entries-near (bases c) (bytes c) (held (start c)) R)
 
 returns-2 : tie.Need-returns-2
-returns-2 c = refused-13 (Sheet (c .before .before)) (Given (c .before .before)) (Seen (c .before .before)) (listed (c .before .before)) (sym (test-13 (c .before)) ∙ c .if2 .taken)
+returns-2 c = let a : At = c .before .before in refused-13 (sheet a) (given a) (seen a) (listed a) (sym (test-13 (c .before)) ∙ c .if2 .taken)
 
 bond-absent-requires : tie.Need-bond-absent-requires
-bond-absent-requires c κs = room _ _ _ (ready-of (c .before .before))
+bond-absent-requires c κs = let R = ready-of (at-14 c) in (room _ _ _ R, R .order)
 
 returns-3 : tie.Need-returns-3
-returns-3 c = refused-14 (Sheet (c .before .before .before .before)) (Given (c .before .before .before .before)) (Seen (c .before .before .before .before)) (listed (c .before .before .before .before)) (passed-13 (c .before .before)) (sym (test-14 (c .before)) ∙ c .if3 .taken)
+returns-3 c =
+    let e : tie.Else2 = c .before .before in
+    let a = at-14 e in
+    refused-14 (sheet a) (given a) (seen a) (listed a) (passed-13 e) (sym (test-14 (c .before)) ∙ c .if3 .taken)
 
 bond-present-requires : tie.Need-bond-present-requires
-bond-present-requires c κs = room _ _ _ (ready-of (c .before .before .before .before))
+bond-present-requires c κs = let R = ready-of (at-15 c) in (room _ _ _ R, R .order)
 
 returns-4 : tie.Need-returns-4
-returns-4 c = refused-15 (Sheet (c .before .before .before .before .before .before)) (Given (c .before .before .before .before .before .before)) (Seen (c .before .before .before .before .before .before)) (listed (c .before .before .before .before .before .before)) (passed-13 (c .before .before .before .before)) (passed-14 (c .before .before)) (sym (test-15 (c .before)) ∙ c .if4 .taken)
+returns-4 c =
+    let e : tie.Else3 = c .before .before in
+    let a = at-15 e in
+    refused-15 (sheet a) (given a) (seen a) (listed a) (passed-13 (e .before .before)) (passed-14 e) (sym (test-15 (c .before)) ∙ c .if4 .taken)
 
 torn-apart-requires : tie.Need-torn-apart-requires
-torn-apart-requires c κs = ready-of (c .before .before .before .before .before .before)
+torn-apart-requires c κs =
+    let a = at-16 c in
+    let R = ready-of a in
+    (places-length _ _ _ R, entries-low (bases a) (bytes a) (held (start a)) R)
 
 returns-5 : tie.Need-returns-5
-returns-5 c = refused-16 (Sheet (c .before .before .before .before .before .before .before .before)) (Given (c .before .before .before .before .before .before .before .before)) (Seen (c .before .before .before .before .before .before .before .before)) (listed (c .before .before .before .before .before .before .before .before)) (passed-13 (c .before .before .before .before .before .before)) (passed-14 (c .before .before .before .before)) (passed-15 (c .before .before)) (sym (test-16 (c .before)) ∙ c .if5 .taken)
+returns-5 c =
+    let e : tie.Else4 = c .before .before in
+    let a = at-16 e in
+    refused-16 (sheet a) (given a) (seen a) (listed a) (passed-13 (e .before .before .before .before)) (passed-14 (e .before .before)) (passed-15 e)
+    (sym (test-16 (c .before)) ∙ c .if5 .taken)
 
 returns-6 : tie.Need-returns-6
-returns-6 c = enabled (Sheet (c .before .before .before .before .before .before .before .before)) (Given (c .before .before .before .before .before .before .before .before)) (Seen (c .before .before .before .before .before .before .before .before)) (listed (c .before .before .before .before .before .before .before .before)) (passed-13 (c .before .before .before .before .before .before)) (passed-14 (c .before .before .before .before)) (passed-15 (c .before .before)) (sym (test-16 (c .before)) ∙ c .if5 .left)
+returns-6 c =
+    let e : tie.Else4 = c .before .before in
+    let a = at-16 e in
+    enabled (sheet a) (given a) (seen a) (listed a) (passed-13 (e .before .before .before .before)) (passed-14 (e .before .before)) (passed-15 e)
+    (sym (test-16 (c .before)) ∙ c .if5 .left)
 
 pub enable-refusal-spec : {M : Type 1} → statement M
 enable-refusal-spec =

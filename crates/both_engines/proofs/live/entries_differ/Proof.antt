@@ -17,11 +17,8 @@ loop-holds c = search needs
 following-requires : tie.Need-following-requires Inv-loop μ-loop
 following-requires c κs = search needs
 
-mul-f : tie.Need-mul-f Inv-loop μ-loop
-mul-f c = search needs
-
-array-copy-out-f : tie.Need-array-copy-out-f Inv-loop μ-loop
-array-copy-out-f c = search needs
+firing-at-requires : tie.Need-firing-at-requires Inv-loop μ-loop
+firing-at-requires c κs = search needs
 
 entry-differs-requires : tie.Need-entry-differs-requires Inv-loop μ-loop
 entry-differs-requires c κs = search needs
@@ -46,8 +43,7 @@ entries-differ-spec =
     μ-loop
     loop-holds
     following-requires
-    mul-f
-    array-copy-out-f
+    firing-at-requires
     entry-differs-requires
     add-i
     loop-less

@@ -6,16 +6,22 @@ use Rattle.command_case.proofs.same.same_moved.Statement.{statement}
 use Rattle.command_case.proofs.same.same_moved.Tie as tie
 
 abbrev Inv-loop : tie.InvT-loop
-Inv-loop a b ok₀ i₀ ok i = i ≤ 64
+Inv-loop a b ok₀ i₀ ok i = i ≤ 256
 
 abbrev μ-loop : tie.MeasureT-loop
-μ-loop a b ok₀ i₀ ok i = 64 - i
+μ-loop a b ok₀ i₀ ok i = 256 - i
 
 loop-holds : tie.Need-loop-holds Inv-loop μ-loop
 loop-holds c = search needs
 
+mul-ok : tie.Need-mul-ok Inv-loop μ-loop
+mul-ok c = search needs
+
 array-read-ok : tie.Need-array-read-ok Inv-loop μ-loop
 array-read-ok c = search needs
+
+mul-ok-2 : tie.Need-mul-ok-2 Inv-loop μ-loop
+mul-ok-2 c = search needs
 
 array-read-ok-2 : tie.Need-array-read-ok-2 Inv-loop μ-loop
 array-read-ok-2 c = search needs
@@ -39,7 +45,9 @@ same-moved-spec =
     Inv-loop
     μ-loop
     loop-holds
+    mul-ok
     array-read-ok
+    mul-ok-2
     array-read-ok-2
     add-i
     loop-less
