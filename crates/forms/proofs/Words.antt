@@ -3,21 +3,14 @@
 use mathlib.Core.Path.{_≡_, refl}
 use mathlib.Core.Bool.{Bool, true, false}
 use Prim.Native.Nat.{ℕ, _+_, _<_, _≤_}
-use native.Mathlib.Omega.{arith}
 use native.Mathlib.Numerals.{add-one}
-use mathlib.Core.List.{List, [], _∷_}
+use mathlib.Core.List.{List, []}
 use lib.Dec.{eqb, leb}
-use lib.ListN.{length, getD, length-drop, length-take}
+use lib.ListN.{length, getD}
 use lib.Seq.{slice, slice-cons}
 use borrow.Author.Tests.{leb-true, leb-false, eq-eqb, ne-eqb}
 use Rattle.net.specs.Tests.{sameList}
-
-none : (l : List ℕ) → length l ≡ 0 → l ≡ []
-none [] e = refl
-none (x ∷ l) e = absurd (let z : ⊥ = omega arith in z)
-
-pub slice-none : (i to : ℕ) (s : List ℕ) → to ≤ i → slice i to s ≡ []
-slice-none i to s h = let n : length (slice i to s) ≡ 0 = simp (length-drop, length-take) (omega arith) in none (slice i to s) n
+use Rattle.lexing.proofs.Scans.{slice-none}
 
 module _ (a b : List ℕ) (i to j stop : ℕ) (ha : to ≤ length a) (hb : stop ≤ length b) where
   pub same-short : i < to → stop ≤ j → false ≡ sameList eqb (slice i to a) (slice j stop b)

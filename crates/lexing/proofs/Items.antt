@@ -15,7 +15,8 @@ use Rattle.lexing.specs.Tokens.{Token, word, number, line, end, wrong, l
 use Rattle.lexing.specs.Printed.{itemText, plain}
 use Rattle.lexing.proofs.Fronts.{front-stop, past-stop, ends-letter, ends-digit, decimal-value, decimal-digits}
 
-never : {X : Type 0} → false ≡ true → X
+-- false is not true
+pub never : {X : Type 0} → false ≡ true → X
 never e = absurd (let z : _≡_ {A = ℕ} 0 1 = cc in let f : ⊥ = omega arith in f)
 
 module _ (c : ℕ) (w r : List ℕ) where
@@ -69,10 +70,6 @@ item-next wrong r p q = never p
 pub blank-next : (s : List ℕ) → nextOf (32 ∷ s) ≡ nextOf s
 unfolding nextOf
 blank-next s = refl
-
-pub line-next : (s : List ℕ) → nextOf (10 ∷ s) ≡ next′ line s
-unfolding nextOf
-line-next s = refl
 
 pub end-next : nextOf [] ≡ next′ end []
 unfolding nextOf

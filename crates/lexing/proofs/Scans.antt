@@ -30,16 +30,20 @@ module _ (f : ℕ → Bool) (s : List ℕ) (i : ℕ) where
   pub past-end : length s ≤ i → drop i s ≡ past f (drop i s)
   past-end h = rw (drop-of-length-le s h)
 
+-- a slice that ends where it begins
 none : (l : List ℕ) → length l ≡ 0 → l ≡ []
 none [] e = refl
 none (x ∷ l) e = absurd (let z : ⊥ = omega arith in z)
+
+pub slice-none : (i to : ℕ) (s : List ℕ) → to ≤ i → slice i to s ≡ []
+slice-none i to s h = let n : length (slice i to s) ≡ 0 = simp (length-drop, length-take) (omega arith) in none (slice i to s) n
 
 module _ (s : List ℕ) (i to v : ℕ) where
   pub value-on : i < to → to ≤ length s → {w : ℕ} → w ≡ more v (getD s i 0) → foldl more w (slice (i + 1) to s) ≡ foldl more v (slice i to s)
   value-on h k e = rw (e, slice-cons i to s 0 h k, add-one i)
 
   pub value-end : to ≤ i → v ≡ foldl more v (slice i to s)
-  value-end h = let n : length (slice i to s) ≡ 0 = simp (length-drop, length-take) (omega arith) in rw (none (slice i to s) n)
+  value-end h = rw (slice-none i to s h)
 
 -- ---- a run by its two ends
 

@@ -33,19 +33,22 @@ pub enum Class {
     InLine,
 }
 
+// A letter lies between two.
 fn between(c: u8, lo: u8, hi: u8) -> bool
     ensures { λ r. ⌜ r ≡ (leb lo c && leb c hi) ⌝ }
 {
     lo <= c && c <= hi
 }
 
+// A space, a tab, a carriage return; not the newline.
 fn is_blank(c: u8) -> bool
     ensures { λ r. ⌜ r ≡ blank c ⌝ }
 {
     c <= 32 && c != 10
 }
 
-pub fn is_of(class: Class, c: u8) -> bool
+// A letter is of a class.
+fn is_of(class: Class, c: u8) -> bool
     ensures { λ r. ⌜ r ≡ passes class c ⌝ }
 {
     match class {
@@ -56,7 +59,8 @@ pub fn is_of(class: Class, c: u8) -> bool
     }
 }
 
-// Where the letters of a class that stand from `at` on end. Here and below: a caller reads from within the text.
+// Where the letters of a class that stand from `at` on end. Here and below, where it is required: a caller reads from within
+// the text.
 pub fn end_of(text: &[u8], at: usize, class: Class) -> usize
     requires { ⌜ at ≤ length (now text) ⌝ }
     ensures { λ r. ⌜ Reaches (now (text .entry)) at class r ⌝ }
@@ -73,7 +77,7 @@ pub fn end_of(text: &[u8], at: usize, class: Class) -> usize
 }
 
 // What a digit counts.
-pub fn digit_of(c: u8) -> u32
+fn digit_of(c: u8) -> u32
     ensures { λ r. ⌜ (r ≡ c - 48) × (r ≤ 255) ⌝ }
 {
     if c < 48 {
@@ -83,7 +87,7 @@ pub fn digit_of(c: u8) -> u32
 }
 
 // One digit more of a number. What was read so far is the answer for one digit less.
-pub fn one_more(v: u32, c: u8) -> u32
+fn one_more(v: u32, c: u8) -> u32
     requires { ⌜ v ≤ tooMuch ⌝ }
     ensures { λ r. ⌜ (r ≡ more v c) × (r ≤ tooMuch) ⌝ }
 {
@@ -95,7 +99,7 @@ pub fn one_more(v: u32, c: u8) -> u32
 }
 
 // The number that the digits between two positions are. The caller has found both in the text.
-pub fn value_of(text: &[u8], from: usize, to: usize) -> u32
+fn value_of(text: &[u8], from: usize, to: usize) -> u32
     requires { ⌜ (from ≤ to) × (to ≤ length (now text)) ⌝ }
     ensures { λ r. ⌜ r ≡ value (slice from to (now (text .entry))) ⌝ }
 {
@@ -110,7 +114,6 @@ pub fn value_of(text: &[u8], from: usize, to: usize) -> u32
 
 // An item may end here: at the end of the text, a blank, a newline or a comment.
 fn ends_at(text: &[u8], at: usize) -> bool
-    requires { ⌜ at ≤ length (now text) ⌝ }
     ensures { λ r. ⌜ r ≡ ends (drop at (now (text .entry))) ⌝ }
 {
     if text.len() <= at {
@@ -125,7 +128,6 @@ fn ends_at(text: &[u8], at: usize) -> bool
 
 // A digit stands here.
 fn digit_at(text: &[u8], at: usize) -> bool
-    requires { ⌜ at ≤ length (now text) ⌝ }
     ensures { λ r. ⌜ r ≡ onDigit (drop at (now (text .entry))) ⌝ }
 {
     if text.len() <= at {
@@ -136,7 +138,6 @@ fn digit_at(text: &[u8], at: usize) -> bool
 
 // A hyphen stands here and a digit behind it.
 fn joins_at(text: &[u8], at: usize) -> bool
-    requires { ⌜ at ≤ length (now text) ⌝ }
     ensures { λ r. ⌜ r ≡ joins (drop at (now (text .entry))) ⌝ }
 {
     if text.len() <= at {

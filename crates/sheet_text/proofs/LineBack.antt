@@ -10,6 +10,7 @@ use borrow.Author.Tests.{leb-true, lt-ltb}
 use Rattle.net.specs.Tests.{all}
 use Rattle.net.proofs.Tests.{and-l, and-r, and-i}
 use Rattle.lexing.specs.Tokens.{tooMuch}
+use Rattle.lexing.proofs.Items.{never}
 use Rattle.lexing.specs.Printed.{plain, plainLine, plainLines}
 use Rattle.sheet_text.specs.Reading.{maxItems}
 use lib.ListN.{length}
@@ -28,9 +29,6 @@ small (Move p i o) = leb p most && (leb i most && leb o most)
 small (Before p q) = leb p most && leb q most
 small (After p q) = leb p most && leb q most
 small Wrong = false
-
-never : {X : Type 0} → false ≡ true → X
-never e = absurd (let z : _≡_ {A = ℕ} 0 1 = cc in let f : ⊥ = omega arith in f)
 
 pub line-back : (l : Line) → small l ≡ true → lineOf (lineTokens l) ≡ l
 unfolding lineOf stepLineOf

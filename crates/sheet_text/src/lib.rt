@@ -51,7 +51,7 @@ fn step_line(text: &[u8], at: usize) -> Line
     Line::Wrong
 }
 
-// The line at a position.
+// The line at a position, which lies in the text.
 pub fn line_of(text: &[u8], at: usize) -> Line
     requires { ⌜ at ≤ length (now text) ⌝ }
     ensures { λ r. ⌜ r ≡ lineOf (row 8 (drop at (now (text .entry)))) ⌝ }
@@ -112,6 +112,7 @@ fn admitted(told: bool, parts: usize, steps: usize, l: Line) -> bool
     }
 }
 
+// The three as one.
 fn counts_of(told: bool, parts: usize, steps: usize) -> Counts
     ensures { λ r. ⌜ r ≡ counts told parts steps ⌝ }
 {
@@ -122,7 +123,7 @@ fn counts_of(told: bool, parts: usize, steps: usize) -> Counts
     }
 }
 
-// What was read, with a line more. A text has fewer lines than a usize holds: both counts are below what its bytes are.
+// What was read, with a line more. Both counts are at most the bytes that the caller has passed.
 fn counted(told: bool, parts: usize, steps: usize, l: Line) -> Counts
     requires { ⌜ (parts < 18446744073709551615) × (steps < 18446744073709551615) ⌝ }
     ensures { λ r. ⌜ r ≡ countsAfter told parts steps l ⌝ }
