@@ -1,6 +1,6 @@
 -- Laws of the loop that holds a line to a form, item by item.
 -- Assumes nothing.
-use mathlib.Core.Path.{_≡_, refl}
+use mathlib.Core.Path.{_≡_, refl, sym, _∙_}
 use mathlib.Core.Bool.{Bool, true, false, _&&_}
 use Prim.Native.Nat.{ℕ, zero, suc, _-_, _<_}
 use native.Mathlib.Omega.{arith}
@@ -52,16 +52,17 @@ module _ (f s : List ℕ) (g r : List ℕ) (q p : Piece) (dq : Stands f q (nextO
   line-over zero h e d = absurd (let z : ⊥ = omega arith in z)
   line-over (suc n) h e d = rw (row-step f g q n dq, row-step s r p n dp, e, d)
 
-  pub not-suited : (n : ℕ) → 0 < n → closesKind (q .kind) ≡ false → closesKind (p .kind) ≡ false → suits (tok f q) (tok s p) ≡ false → false ≡ fits (row n g) (row n r)
-  not-suited zero h e d u = absurd (let z : ⊥ = omega arith in z)
-  not-suited (suc n) h e d u = rw (row-step f g q n dq, row-step s r p n dp, e, d, u)
+  pub not-suited : (n : ℕ) → 0 < n → closesKind (q .kind) ≡ false → closesKind (p .kind) ≡ false → (b : Bool) → b ≡ suits (tok f q) (tok s p) → b ≡ false
+      → false ≡ fits (row n g) (row n r)
+  not-suited zero h e d b u v = absurd (let z : ⊥ = omega arith in z)
+  not-suited (suc n) h e d b u v = rw (row-step f g q n dq, row-step s r p n dp, e, d, sym u ∙ v)
 
-  pub suited : (n : ℕ) → 0 < n → closesKind (q .kind) ≡ false → closesKind (p .kind) ≡ false → suits (tok f q) (tok s p) ≡ true
+  pub suited : (n : ℕ) → 0 < n → closesKind (q .kind) ≡ false → closesKind (p .kind) ≡ false → (b : Bool) → b ≡ suits (tok f q) (tok s p) → b ≡ true
       → fits (row (n - 1) (drop (q .to) f)) (row (n - 1) (drop (p .to) s)) ≡ fits (row n g) (row n r)
-  suited zero h e d u = absurd (let z : ⊥ = omega arith in z)
-  suited (suc n) h e d u =
+  suited zero h e d b u v = absurd (let z : ⊥ = omega arith in z)
+  suited (suc n) h e d b u v =
       let m : suc n - 1 ≡ n = omega arith in
-      rw (row-step f g q n dq, row-step s r p n dp, e, d, u, m)
+      rw (row-step f g q n dq, row-step s r p n dp, e, d, sym u ∙ v, m)
 
 -- ---- the numbers of a row
 

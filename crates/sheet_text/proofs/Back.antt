@@ -72,7 +72,8 @@ arcs-small n m t k l g =
     joins-small (moveLines (t .entries)) (beforeLines (t .inBonds) ++ afterLines (t .outBonds))
     (maps-small (λ (e : Entry). Move (e .base) (e .from) (e .to)) (t .entries) (λ e i.
     let (p, q, r) = g .entry e i in
-    and-i (leb (e .base) most) (leb (e .from) most && leb (e .to) most) (fine (e .base) (omega arith)) (and-i (leb (e .from) most) (leb (e .to) most) (fine (e .from) (omega arith)) (fine (e .to) (omega arith)))))
+    and-i (leb (e .base) most) (leb (e .from) most && leb (e .to) most) (fine (e .base) (omega arith))
+    (and-i (leb (e .from) most) (leb (e .to) most) (fine (e .from) (omega arith)) (fine (e .to) (omega arith)))))
     (joins-small (beforeLines (t .inBonds)) (afterLines (t .outBonds))
     (maps-small (λ (b : Bond). Before (b .lo) (b .hi)) (t .inBonds) (λ b i. bond-small m b l (g .inBond b i)))
     (maps-small (λ (b : Bond). After (b .lo) (b .hi)) (t .outBonds) (λ b i. bond-small m b l (g .outBond b i))))
@@ -91,7 +92,8 @@ net-small s p =
     let a = p .places in
     let b = p .bases in
     let d = p .transitions in
-    and-i (leb (placesOf s) most) (all small (partLines 0 (startMarking s .places) ++ (coupledLines (startMarking s .bonds) ++ stepLines 0 (table (transitionsOf s) (λ k. arcsAt s (transition k)))))) (fine (placesOf s) (omega arith))
+    and-i (leb (placesOf s) most)
+    (all small (partLines 0 (startMarking s .places) ++ (coupledLines (startMarking s .bonds) ++ stepLines 0 (table (transitionsOf s) (λ k. arcsAt s (transition k)))))) (fine (placesOf s) (omega arith))
     (joins-small (partLines 0 (startMarking s .places)) (coupledLines (startMarking s .bonds) ++ stepLines 0 (table (transitionsOf s) (λ k. arcsAt s (transition k))))
     (parts-small 0 (startMarking s .places) (omega arith) (λ i k. let q = p .startPlace i (rw (← e) k) in omega arith))
     (joins-small (coupledLines (startMarking s .bonds)) (stepLines 0 (table (transitionsOf s) (λ k. arcsAt s (transition k))))

@@ -78,7 +78,8 @@ module _ (n b : ℕ) (ps : List ℕ) (bs : List Bond) where
   moves-take ts es [] is os =
       subst (λ (z : List Entry). Takes (at (ts ++ (arcs es is os ∷ []))) [] (at (ts ++ (arcs z is os ∷ [])))) (sym (append-nil es)) (takes-none (at (ts ++ (arcs es is os ∷ []))))
   moves-take ts es (f ∷ fs) is os =
-      on-last (λ (t : Arcs). arcs (t .entries ++ (f ∷ [])) (t .inBonds) (t .outBonds)) ts (arcs es is os) (Move (f .base) (f .from) (f .to)) (moveLines fs) (at (ts ++ (arcs (es ++ (f ∷ fs)) is os ∷ []))) refl refl
+      on-last (λ (t : Arcs). arcs (t .entries ++ (f ∷ [])) (t .inBonds) (t .outBonds)) ts (arcs es is os) (Move (f .base) (f .from) (f .to)) (moveLines fs)
+      (at (ts ++ (arcs (es ++ (f ∷ fs)) is os ∷ []))) refl refl
       (subst (λ (z : List Entry). Takes (at (ts ++ (arcs (es ++ (f ∷ [])) is os ∷ []))) (moveLines fs) (at (ts ++ (arcs z is os ∷ []))))
       (append-assoc es (f ∷ []) fs) (moves-take ts (es ++ (f ∷ [])) fs is os))
 

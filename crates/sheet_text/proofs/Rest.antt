@@ -104,7 +104,8 @@ module _ (s : List ℕ) (a k : ℕ) (told : Bool) (parts steps : ℕ) (r : Rest 
       pub rest-on : (b : ℕ) → xs ≡ linesOf (drop b s) → Rest s b (k + 1) (countsAfter told parts steps l .told) (countsAfter told parts steps l .parts) (countsAfter told parts steps l .steps)
       rest-on b q = record {
         net = added (r .net) l;
-        counted = ap (λ (t : Bool). countsOf t (added (r .net) l)) (told-after told parts steps l) ∙ counts-after told (r .net) l ∙ ap (λ (c : Counts). countsAfter (c .told) (c .parts) (c .steps) l) (r .counted);
+        counted = ap (λ (t : Bool). countsOf t (added (r .net) l)) (told-after told parts steps l) ∙ counts-after told (r .net) l ∙ ap
+            (λ (c : Counts). countsAfter (c .told) (c .parts) (c .steps) l) (r .counted);
         same = rw (add-one k, ← q, told-after told parts steps l) same-on;
       }
 

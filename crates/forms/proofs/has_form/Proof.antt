@@ -39,14 +39,18 @@ returns c =
     let k = c .before in
     let at : tie.At-loop Inv-loop μ-loop = k .before .before .before .before .before in
     let st = at .before .before .before in
-    form-over (st .args .form .now) (st .args .text .now) (drop (at .loop .j) (st .args .form .now)) (drop (at .loop .i) (st .args .text .now)) _ _ (k .before .before .before .next .ensures) (k .before .before .next2 .ensures) (at .loop .left) (k .before .before .before .before .loop-test .taken) (sym (k .before .closes .ensures) ∙ c .if1 .taken) _ (k .closes2 .ensures) ∙ at .loop .inv .2
+    form-over (st .args .form .now) (st .args .text .now) (drop (at .loop .j) (st .args .form .now)) (drop (at .loop .i) (st .args .text .now)) _ _
+    (k .before .before .before .next .ensures) (k .before .before .next2 .ensures) (at .loop .left) (k .before .before .before .before .loop-test .taken)
+    (sym (k .before .closes .ensures) ∙ c .if1 .taken) _ (k .closes2 .ensures) ∙ at .loop .inv .2
 
 returns-2 : tie.Need-returns-2 Inv-loop μ-loop
 returns-2 c =
     let k = c .before .before in
     let at : tie.At-loop Inv-loop μ-loop = k .before .before .before .before .before in
     let st = at .before .before .before in
-    line-over (st .args .form .now) (st .args .text .now) (drop (at .loop .j) (st .args .form .now)) (drop (at .loop .i) (st .args .text .now)) _ _ (k .before .before .before .next .ensures) (k .before .before .next2 .ensures) (at .loop .left) (k .before .before .before .before .loop-test .taken) (sym (k .before .closes .ensures) ∙ c .before .if1 .left) (sym (k .closes2 .ensures) ∙ c .if2 .taken) ∙ at .loop .inv .2
+    line-over (st .args .form .now) (st .args .text .now) (drop (at .loop .j) (st .args .form .now)) (drop (at .loop .i) (st .args .text .now)) _ _
+    (k .before .before .before .next .ensures) (k .before .before .next2 .ensures) (at .loop .left) (k .before .before .before .before .loop-test .taken)
+    (sym (k .before .closes .ensures) ∙ c .before .if1 .left) (sym (k .closes2 .ensures) ∙ c .if2 .taken) ∙ at .loop .inv .2
 
 suits-requires : tie.Need-suits-requires Inv-loop μ-loop
 suits-requires c κs = search needs
@@ -56,7 +60,10 @@ returns-3 c =
     let k = c .before .before .before .before in
     let at : tie.At-loop Inv-loop μ-loop = k .before .before .before .before .before in
     let st = at .before .before .before in
-    not-suited (st .args .form .now) (st .args .text .now) (drop (at .loop .j) (st .args .form .now)) (drop (at .loop .i) (st .args .text .now)) _ _ (k .before .before .before .next .ensures) (k .before .before .next2 .ensures) (at .loop .left) (k .before .before .before .before .loop-test .taken) (sym (k .before .closes .ensures) ∙ c .before .before .before .if1 .left) (sym (k .closes2 .ensures) ∙ c .before .before .if2 .left) (sym (c .before .suits .ensures) ∙ not-true _ (c .if3 .taken)) ∙ at .loop .inv .2
+    not-suited (st .args .form .now) (st .args .text .now) (drop (at .loop .j) (st .args .form .now)) (drop (at .loop .i) (st .args .text .now)) _ _
+    (k .before .before .before .next .ensures) (k .before .before .next2 .ensures) (at .loop .left) (k .before .before .before .before .loop-test .taken)
+    (sym (k .before .closes .ensures) ∙ c .before .before .before .if1 .left) (sym (k .closes2 .ensures) ∙ c .before .before .if2 .left) _
+    (c .before .suits .ensures) (not-true _ (c .if3 .taken)) ∙ at .loop .inv .2
 
 sub-left : tie.Need-sub-left Inv-loop μ-loop
 sub-left c = search needs
@@ -69,7 +76,7 @@ loop-again c =
     let k = c .before .before .before .before in
     let at : tie.At-loop Inv-loop μ-loop = k .before .before .before .before .before in
     let st = at .before .before .before in
-    (search needs, search needs, suited (st .args .form .now) (st .args .text .now) (drop (at .loop .j) (st .args .form .now)) (drop (at .loop .i) (st .args .text .now)) _ _ (k .before .before .before .next .ensures) (k .before .before .next2 .ensures) (at .loop .left) (k .before .before .before .before .loop-test .taken) (sym (k .before .closes .ensures) ∙ c .before .before .before .if1 .left) (sym (k .closes2 .ensures) ∙ c .before .before .if2 .left) (sym (c .before .suits .ensures) ∙ not-false _ (c .if3 .left)) ∙ at .loop .inv .2)
+    (search needs, search needs, suited (st .args .form .now) (st .args .text .now) (drop (at .loop .j) (st .args .form .now)) (drop (at .loop .i) (st .args .text .now)) _ _ (k .before .before .before .next .ensures) (k .before .before .next2 .ensures) (at .loop .left) (k .before .before .before .before .loop-test .taken) (sym (k .before .closes .ensures) ∙ c .before .before .before .if1 .left) (sym (k .closes2 .ensures) ∙ c .before .before .if2 .left) _ (c .before .suits .ensures) (not-false _ (c .if3 .left)) ∙ at .loop .inv .2)
 
 returns-4 : tie.Need-returns-4 Inv-loop μ-loop
 returns-4 c =

@@ -34,7 +34,8 @@ returns c =
     let k = c .before in
     let at : tie.At-loop Inv-loop μ-loop = k .before .before .before in
     let st = at .before .before in
-    number-none (st .args .text .now) (drop (at .loop .i) (st .args .text .now)) _ (k .before .next .ensures) (at .loop .left) (at .loop .skip) (k .before .before .loop-test .taken) (sym (k .closes .ensures) ∙ c .if1 .taken) ∙ at .loop .inv .1
+    number-none (st .args .text .now) (drop (at .loop .i) (st .args .text .now)) _ (k .before .next .ensures) (at .loop .left) (at .loop .skip)
+    (k .before .before .loop-test .taken) (sym (k .closes .ensures) ∙ c .if1 .taken) ∙ at .loop .inv .1
 
 is-number-requires : tie.Need-is-number-requires Inv-loop μ-loop
 is-number-requires c κs = search needs
@@ -52,7 +53,9 @@ returns-2 c =
     let st = at .before .before in
     let h = c .before .before in
     let m = h .before in
-    c .value-in .ensures ∙ number-here (st .args .text .now) (drop (at .loop .i) (st .args .text .now)) _ (k .before .next .ensures) (at .loop .left) (at .loop .skip) (k .before .before .loop-test .taken) (sym (k .closes .ensures) ∙ m .before .if1 .left) (ap (λ (b : Bool). b && eqb (at .loop .skip) 0) (sym (m .is-number .ensures)) ∙ sym (h .is-here .ensures) ∙ c .before .if2 .taken) ∙ at .loop .inv .1
+    c .value-in .ensures ∙ number-here (st .args .text .now) (drop (at .loop .i) (st .args .text .now)) _ (k .before .next .ensures) (at .loop .left)
+    (at .loop .skip) (k .before .before .loop-test .taken) (sym (k .closes .ensures) ∙ m .before .if1 .left)
+    (ap (λ (b : Bool). b && eqb (at .loop .skip) 0) (sym (m .is-number .ensures)) ∙ sym (h .is-here .ensures) ∙ c .before .if2 .taken) ∙ at .loop .inv .1
 
 one-less-requires : tie.Need-one-less-requires Inv-loop μ-loop
 one-less-requires c κs = search needs

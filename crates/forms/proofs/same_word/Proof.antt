@@ -27,7 +27,8 @@ returns : tie.Need-returns Inv-loop μ-loop
 returns c =
     let at : tie.At-loop Inv-loop μ-loop = c .before .before in
     let st = at .before in
-    same-short (st .args .a .now) (st .args .b .now) (at .loop .i) (st .args .to) (at .loop .j) (st .args .stop) (at .loop .inv .2) (at .loop .inv .3) (c .before .loop-test .taken) (c .if1 .taken) ∙ at .loop .inv .4
+    same-short (st .args .a .now) (st .args .b .now) (at .loop .i) (st .args .to) (at .loop .j) (st .args .stop) (at .loop .inv .2) (at .loop .inv .3)
+    (c .before .loop-test .taken) (c .if1 .taken) ∙ at .loop .inv .4
 
 shared-slice-read-if2 : tie.Need-shared-slice-read-if2 Inv-loop μ-loop
 shared-slice-read-if2 c = search needs
@@ -39,7 +40,8 @@ returns-2 : tie.Need-returns-2 Inv-loop μ-loop
 returns-2 c =
     let at : tie.At-loop Inv-loop μ-loop = c .before .before .before .before .before in
     let st = at .before in
-    same-differ (st .args .a .now) (st .args .b .now) (at .loop .i) (st .args .to) (at .loop .j) (st .args .stop) (at .loop .inv .2) (at .loop .inv .3) (omega arith) (omega arith) (c .if2 .taken) ∙ at .loop .inv .4
+    same-differ (st .args .a .now) (st .args .b .now) (at .loop .i) (st .args .to) (at .loop .j) (st .args .stop) (at .loop .inv .2) (at .loop .inv .3) (omega arith)
+    (omega arith) (c .if2 .taken) ∙ at .loop .inv .4
 
 add-i : tie.Need-add-i Inv-loop μ-loop
 add-i c = search needs

@@ -65,7 +65,8 @@ returns-6 c =
     let j = c .before .before .before in
     let i = j .before .before in
     let st = i .before .before .before .before in
-    begins-wrong (st .args .text .now) (st .args .from) (i .before .before .if1 .left) (sym (i .is-of .ensures) ∙ j .before .if2 .left) (sym (j .is-of2 .ensures) ∙ c .before .before .if3 .left) (c .before .if4 .left) (c .if5 .left)
+    begins-wrong (st .args .text .now) (st .args .from) (i .before .before .if1 .left) (sym (i .is-of .ensures) ∙ j .before .if2 .left)
+    (sym (j .is-of2 .ensures) ∙ c .before .before .if3 .left) (c .before .if4 .left) (c .if5 .left)
 
 pub begun-at-spec : {M : Type 1} → statement M
 begun-at-spec =

@@ -31,7 +31,8 @@ returns : tie.Need-returns Inv-loop μ-loop
 returns c =
     let at : tie.At-loop Inv-loop μ-loop = c .before .before .before .before in
     record {
-      rest = past-here (passes (at .before .before .args .class)) (at .before .before .args .text .now) (at .loop .i) (omega arith) (sym (c .before .is-of .ensures) ∙ not-true _ (c .if1 .taken)) ∙ at .loop .inv .2;
+      rest = past-here (passes (at .before .before .args .class)) (at .before .before .args .text .now) (at .loop .i) (omega arith)
+          (sym (c .before .is-of .ensures) ∙ not-true _ (c .if1 .taken)) ∙ at .loop .inv .2;
       from = at .loop .inv .0;
       to = at .loop .inv .1;
     }

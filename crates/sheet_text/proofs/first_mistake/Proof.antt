@@ -37,7 +37,8 @@ returns c =
     let st = lp .before .before in
     let s : List ℕ = st .args .text .now in
     let h = ad .before .before .end-of .ensures in
-    rest-refused s (lp .loop .at) (lp .loop .k) (lp .loop .told) (lp .loop .parts) (lp .loop .steps) (lp .loop .inv .4) _ h _ (ad .before .line-at .ensures) (sym (ad .admitted .ensures) ∙ not-true _ (c .if1 .taken))
+    rest-refused s (lp .loop .at) (lp .loop .k) (lp .loop .told) (lp .loop .parts) (lp .loop .steps) (lp .loop .inv .4) _ h _ (ad .before .line-at .ensures)
+    (sym (ad .admitted .ensures) ∙ not-true _ (c .if1 .taken))
 
 returns-2 : tie.Need-returns-2 Inv-loop μ-loop
 returns-2 c =
@@ -46,7 +47,8 @@ returns-2 c =
     let st = lp .before .before in
     let s : List ℕ = st .args .text .now in
     let h = ad .before .before .end-of .ensures in
-    rest-last s (lp .loop .at) (lp .loop .k) (lp .loop .told) (lp .loop .parts) (lp .loop .steps) (lp .loop .inv .4) _ _ (line-last s (lp .loop .at) _ h (c .if2 .taken)) (ad .before .line-at .ensures) (sym (ad .admitted .ensures) ∙ not-false _ (c .before .if1 .left))
+    rest-last s (lp .loop .at) (lp .loop .k) (lp .loop .told) (lp .loop .parts) (lp .loop .steps) (lp .loop .inv .4) _ _
+    (line-last s (lp .loop .at) _ h (c .if2 .taken)) (ad .before .line-at .ensures) (sym (ad .admitted .ensures) ∙ not-false _ (c .before .if1 .left))
 
 counted-requires : tie.Need-counted-requires Inv-loop μ-loop
 counted-requires c κs = search needs
