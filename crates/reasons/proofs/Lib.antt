@@ -1,0 +1,4 @@
+-- Laws of the first that passes, and what a reason says where a command was refused by its number.
+pub mod Firsts
+pub mod Later
+pub mod Named

@@ -1,0 +1,140 @@
+// Why a command was refused (document 01, refusals 13 to 16 and 20): the first entry, coupling or firing of which the
+// condition holds, by its number on its list; the number of all of them where there is none. proofs/Named has what it says.
+ghost use mathlib.Core.Path.{_≡_};
+ghost use Prim.Native.Nat.{ℕ, _+_, _-_, _<_, _≤_};
+ghost use Rattle.net.specs.Limits.{maxBases, maxBonds, maxLive};
+ghost use Rattle.net.specs.Tests.{table};
+ghost use Rattle.net.specs.Sorted.{Ascending};
+ghost use Rattle.net.specs.Net.{sameBond, lessBond};
+ghost use Rattle.format.specs.Arcs.{entryCount, nthEntry, arcsIn};
+ghost use Rattle.bonds.specs.Ends.{bondsIn};
+ghost use Rattle.words.specs.Sets.{setOf};
+ghost use Rattle.reasons.specs.First.{firstAt};
+ghost use Rattle.reasons.specs.Reasons.{awayFrom, absentFrom, presentIn, builtAfter, inBoth};
+use bonds::has_bond;
+use enabling::is_in_bond;
+use format::entry;
+use format::entry_count;
+use format::in_bond;
+use format::in_count;
+use format::out_bond;
+use format::out_count;
+use net::Base;
+use net::Entry;
+use net::MAX_BASES;
+use net::MAX_BONDS;
+use net::MAX_LIVE;
+use net::Place;
+use words::has_base;
+use words::shares;
+
+// An entry's base is not at its in-place. `first_away` has entries of bases below the limit.
+fn is_away(places: &[Place; MAX_BASES], e: Entry) -> bool
+    requires { ⌜ e .base < maxBases ⌝ }
+    ensures { λ r. ⌜ r ≡ awayFrom (now (places .entry)) e ⌝ }
+{
+    let base = e.base as usize;
+    places[base] != e.from
+}
+
+// 13: the first entry whose base is not at its in-place. The callers' entries are of bases of the net.
+pub fn first_away(step: &[u8], places: &[Place; MAX_BASES]) -> u8
+    requires { ⌜ ((i : ℕ) → i < entryCount (now step) → nthEntry (now step) i .base < maxBases) ⌝ }
+    ensures { λ r. ⌜ r ≡ firstAt (awayFrom (now (places .entry))) (arcsIn (now (step .entry)) .entries) ⌝ }
+{
+    let n = entry_count(step);
+    let mut i: u8 = 0;
+    while i < n {
+        let e = entry(step, i);
+        let away = is_away(places, e);
+        if away {
+            return i;
+        }
+        i += 1;
+    }
+    n
+}
+
+// 14: the first in-coupling that is not there. Callers have the bonds of a marking in its form, in strict order, here and below.
+pub fn first_absent<'a>(
+    step: &[u8],
+    lo: &'a [Base; MAX_BONDS],
+    hi: &'a [Base; MAX_BONDS],
+    count: usize,
+) -> u8
+    requires { ⌜ (count ≤ maxBonds) × Ascending sameBond lessBond (bondsIn (now lo) (now hi) count) ⌝ }
+    ensures { λ r. ⌜
+        r ≡ firstAt (absentFrom (bondsIn (now (lo .entry)) (now (hi .entry)) count)) (arcsIn (now (step .entry)) .inBonds) ⌝ }
+{
+    let n = in_count(step);
+    let mut i: u8 = 0;
+    while i < n {
+        let b = in_bond(step, i);
+        let here = has_bond(lo, hi, count, b);
+        if !here {
+            return i;
+        }
+        i += 1;
+    }
+    n
+}
+
+// 15: the first out-coupling that is no in-coupling and is there already.
+pub fn first_present<'a>(
+    step: &[u8],
+    lo: &'a [Base; MAX_BONDS],
+    hi: &'a [Base; MAX_BONDS],
+    count: usize,
+) -> u8
+    requires { ⌜ (count ≤ maxBonds) × Ascending sameBond lessBond (bondsIn (now lo) (now hi) count) ⌝ }
+    ensures { λ r. ⌜
+        r ≡ firstAt (presentIn (arcsIn (now (step .entry)) .inBonds) (bondsIn (now (lo .entry)) (now (hi .entry)) count))
+        (arcsIn (now (step .entry)) .outBonds) ⌝ }
+{
+    let n = out_count(step);
+    let mut i: u8 = 0;
+    while i < n {
+        let b = out_bond(step, i);
+        let kept = is_in_bond(step, b);
+        let here = has_bond(lo, hi, count, b);
+        if !kept & here {
+            return i;
+        }
+        i += 1;
+    }
+    n
+}
+
+// 20: where the first live firing after the one at i stands that moved a base which that one moved. The callers have found
+// i among the live ones.
+pub fn first_later(moved: &[u64; MAX_LIVE], live: usize, i: usize) -> usize
+    requires { ⌜ (i < live) × (live ≤ maxLive) ⌝ }
+    ensures { λ r. ⌜ r ≡ i + 1 + firstAt (builtAfter (now (moved .entry)) i) (table (live - (i + 1)) (λ j. j)) ⌝ }
+{
+    let mine = moved[i];
+    let mut j = i + 1;
+    while j < live {
+        let met = shares(mine, moved[j]);
+        if met {
+            return j;
+        }
+        j += 1;
+    }
+    live
+}
+
+// 20: the first base of both sets.
+pub fn first_common(a: u64, b: u64) -> usize
+    ensures { λ r. ⌜ r ≡ firstAt (inBoth (setOf maxBases a) (setOf maxBases b)) (table maxBases (λ p. p)) ⌝ }
+{
+    let mut p = 0;
+    while p < MAX_BASES {
+        let x = has_base(a, p as u8);
+        let y = has_base(b, p as u8);
+        if x & y {
+            return p;
+        }
+        p += 1;
+    }
+    MAX_BASES
+}
