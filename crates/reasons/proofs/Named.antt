@@ -1,1 +1,121 @@
--- What a reason says. Assumes nothing.
+-- What a reason says is so: where the journal's answer to a command is the refusal of that number, what the reason names is
+-- on its list and holds the condition. Assumes nothing.
+use mathlib.Core.Path.{_≡_, refl, sym, ap, _∙_}
+use mathlib.Core.Bool.{Bool, true, false, not, _&&_, _||_}
+use mathlib.Core.List.{List, [], _∷_}
+use Prim.Native.Nat.{ℕ, suc, _+_, _-_, _<_}
+use native.Mathlib.Omega.{arith}
+use lib.Dec.{eqb, ltb}
+use lib.ListN.{length, getD}
+use borrow.Author.Tests.{eq-eqb}
+use Rattle.causal.proofs.Tests.{both}
+use Rattle.net.specs.Limits.{maxBases}
+use Rattle.net.specs.Tests.{pick, any, table}
+use Rattle.net.specs.Net.{Arcs, Marking, Net, arcsOf}
+use Rattle.net.specs.Firing.{inSet, misplaced, bondAbsent, bondPresent, tornApart}
+use Rattle.net.specs.Checks.{Check, first, clear}
+use Rattle.net.specs.Journal.{Journal, Answer, fired, undone, refused, LiveLine, lineOf, common, builtOn, kindOf, fireChecks, undoChecks, transitionNamed, keyNamed, checks, fireReply, undoReply, refuse, act}
+use Rattle.net.specs.declared.Entry.{Entry}
+use Rattle.net.proofs.Tests.{and-l, and-r}
+use Rattle.net.proofs.Tables.{length-table, getD-table}
+use Rattle.firings.specs.Search.{builtOnIn}
+use Rattle.words.specs.Sets.{setOf}
+use Rattle.reasons.specs.First.{firstAt}
+use Rattle.reasons.specs.Reasons.{awayFrom, absentFrom, presentIn, builtAfter, inBoth}
+use Rattle.reasons.proofs.Firsts.{first-on, first-holds}
+
+-- The i-th of a list is there, and passes the test.
+pub record Named {X : Type 0} (f : X → Bool) (l : List X) (i : ℕ) : Type 0 where
+  pub on : i < length l
+  pub holds : (d : X) → f (getD l i d) ≡ true
+
+named : {X : Type 0} (f : X → Bool) (l : List X) → any f l ≡ true → Named f l (firstAt f l)
+named f l h = record { on = first-on f l h; holds = λ d. first-holds f l d h }
+
+-- ---- the condition of the number that was answered
+
+-- one of the checks has that number and holds
+abbrev holdsBy : ℕ → Check → Bool
+holdsBy n c = eqb (c .number) n && c .holds
+
+first-by : (cs : List Check) (n : ℕ) → first cs ≡ suc n → any (holdsBy (suc n)) cs ≡ true
+first-by [] n h = absurd (let z : ⊥ = omega arith in z)
+first-by (c ∷ cs) n h = go (c .holds) h (first-by cs n)
+  where
+    go : (b : Bool) → pick b (c .number) (first cs) ≡ suc n → (first cs ≡ suc n → any (holdsBy (suc n)) cs ≡ true) → (eqb (c .number) (suc n) && b || any (holdsBy (suc n)) cs) ≡ true
+    go true e ih = rw (eq-eqb (c .number) (suc n) e)
+    go false e ih = skip (eqb (c .number) (suc n)) (ih e)
+      where
+        skip : (a : Bool) → any (holdsBy (suc n)) cs ≡ true → (a && false || any (holdsBy (suc n)) cs) ≡ true
+        skip true k = k
+        skip false k = k
+
+abbrev numberIn : Answer → ℕ
+numberIn (fired k) = 0
+numberIn (undone k) = 0
+numberIn (refused n) = n
+
+only : (b : Bool) → (b || false) ≡ true → b ≡ true
+only true h = refl
+only false h = h
+
+module _ (net : Net) (j : Journal) (c : List ℕ) where
+  abbrev t : Arcs
+  t = arcsOf net (transitionNamed c)
+
+  abbrev s : Marking
+  s = j .marking
+
+  refused-first : (n : ℕ) → act net j c .answer ≡ refused (suc n) → first (checks net j c) ≡ suc n
+  refused-first n e = go (clear (checks net j c)) (eqb (kindOf c) 1) (ap numberIn e)
+    where
+      go : (a b : Bool) → numberIn (pick a (pick b (fireReply net j (transitionNamed c)) (undoReply net j (keyNamed j c))) (refuse j (first (checks net j c))) .answer) ≡ suc n
+          → first (checks net j c) ≡ suc n
+      go true true k = absurd (let z : ⊥ = omega arith in z)
+      go true false k = absurd (let z : ⊥ = omega arith in z)
+      go false b k = k
+
+  -- the checks of a command of that kind
+  kind-by : (n : ℕ) → act net j c .answer ≡ refused (suc n) → any (holdsBy (suc n)) (checks net j c) ≡ true
+  kind-by n e = first-by (checks net j c) n (refused-first n e)
+
+  refused-13 : act net j c .answer ≡ refused 13 → misplaced t s ≡ true
+  refused-13 e = go (eqb (kindOf c) 1) (kind-by 12 e)
+    where
+      go : (b : Bool) → any (holdsBy 13) (pick b (fireChecks net j (transitionNamed c)) (undoChecks j (keyNamed j c))) ≡ true → misplaced t s ≡ true
+      go true h = only (misplaced t s) h
+      go false h = both false h refl
+
+  refused-14 : act net j c .answer ≡ refused 14 → bondAbsent t s ≡ true
+  refused-14 e = go (eqb (kindOf c) 1) (kind-by 13 e)
+    where
+      go : (b : Bool) → any (holdsBy 14) (pick b (fireChecks net j (transitionNamed c)) (undoChecks j (keyNamed j c))) ≡ true → bondAbsent t s ≡ true
+      go true h = only (bondAbsent t s) h
+      go false h = both false h refl
+
+  refused-15 : act net j c .answer ≡ refused 15 → bondPresent t s ≡ true
+  refused-15 e = go (eqb (kindOf c) 1) (kind-by 14 e)
+    where
+      go : (b : Bool) → any (holdsBy 15) (pick b (fireChecks net j (transitionNamed c)) (undoChecks j (keyNamed j c))) ≡ true → bondPresent t s ≡ true
+      go true h = only (bondPresent t s) h
+      go false h = both false h refl
+
+  pub refused-20 : act net j c .answer ≡ refused 20 → builtOn (j .lines) (lineOf (keyNamed j c) (j .lines)) ≡ true
+  refused-20 e = go (eqb (kindOf c) 1) (kind-by 19 e)
+    where
+      go : (b : Bool) → any (holdsBy 20) (pick b (fireChecks net j (transitionNamed c)) (undoChecks j (keyNamed j c))) ≡ true → builtOn (j .lines) (lineOf (keyNamed j c) (j .lines)) ≡ true
+      go true h = both false h refl
+      go false h = only (builtOn (j .lines) (lineOf (keyNamed j c) (j .lines))) h
+
+  -- 13: the entry's base is not at its in-place
+  pub away-holds : act net j c .answer ≡ refused 13 → Named (awayFrom (s .places)) (t .entries) (firstAt (awayFrom (s .places)) (t .entries))
+  away-holds e = named (awayFrom (s .places)) (t .entries) (refused-13 e)
+
+  -- 14: the in-coupling is not there
+  pub absent-holds : act net j c .answer ≡ refused 14 → Named (absentFrom (s .bonds)) (t .inBonds) (firstAt (absentFrom (s .bonds)) (t .inBonds))
+  absent-holds e = named (absentFrom (s .bonds)) (t .inBonds) (refused-14 e)
+
+  -- 15: the out-coupling is no in-coupling, and is there
+  pub present-holds : act net j c .answer ≡ refused 15
+      → Named (presentIn (t .inBonds) (s .bonds)) (t .outBonds) (firstAt (presentIn (t .inBonds) (s .bonds)) (t .outBonds))
+  present-holds e = named (presentIn (t .inBonds) (s .bonds)) (t .outBonds) (refused-15 e)
