@@ -3,13 +3,14 @@
 use mathlib.Core.Path.{_≡_, refl, sym, ap, _∙_}
 use mathlib.Core.Bool.{Bool, true, false, _||_}
 use mathlib.Core.List.{List, [], _∷_}
-use Prim.Native.Nat.{ℕ, zero, suc, _<_}
+use Prim.Native.Nat.{ℕ, zero, suc, _<_, _≤_}
 use native.Mathlib.Omega.{arith}
 use native.Mathlib.Nat.{le-of-suc-le-suc, not-suc-le-zero}
 use lib.ListN.{length, getD}
 use Rattle.causal.proofs.Tests.{both}
 use Rattle.net.specs.Tests.{pick, any, table}
-use Rattle.net.proofs.Tests.{or-no-l, or-no-r}
+use Rattle.net.proofs.Tests.{fails, or-no-l, or-no-r}
+use Rattle.net.proofs.Tables.{length-table}
 use Rattle.reasons.specs.First.{firstAt}
 
 module _ {X : Type 0} where
@@ -51,3 +52,18 @@ module _ {X : Type 0} where
       go : (b : Bool) → f x ≡ b → (any f l ≡ true → f (getD l (firstAt f l) d) ≡ true) → (b || any f l) ≡ true → f (getD (x ∷ l) (pick b 0 (suc (firstAt f l))) d) ≡ true
       go true e ih k = e
       go false e ih k = ih k
+
+  -- the number found says whether one passes
+  inside : (f : X → Bool) (l : List X) → firstAt f l < length l → any f l ≡ true
+  inside f [] h = absurd (not-suc-le-zero h)
+  inside f (x ∷ l) h = go (f x) (λ k. inside f l k) h
+    where
+      go : (b : Bool) → (firstAt f l < length l → any f l ≡ true) → pick b 0 (suc (firstAt f l)) < suc (length l) → (b || any f l) ≡ true
+      go true ih k = refl
+      go false ih k = ih (le-of-suc-le-suc k)
+
+  pub first-inside : (f : X → Bool) (n : ℕ) (g : ℕ → X) (r : ℕ) → r ≡ firstAt f (table n g) → r < n → any f (table n g) ≡ true
+  first-inside f n g r e h = let a = length-table n g in inside f (table n g) (omega arith)
+
+  pub first-outside : (f : X → Bool) (n : ℕ) (g : ℕ → X) (r : ℕ) → r ≡ firstAt f (table n g) → n ≤ r → any f (table n g) ≡ false
+  first-outside f n g r e h = fails (any f (table n g)) (λ k. let a = first-on f (table n g) k in let b = length-table n g in omega arith)

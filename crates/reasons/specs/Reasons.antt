@@ -6,8 +6,10 @@ use Prim.Native.Nat.{ℕ, _+_}
 use lib.Dec.{eqb}
 use lib.ListN.{getD}
 use Rattle.net.specs.Limits.{maxBases}
-use Rattle.net.specs.Net.{hasBond}
-use Rattle.net.specs.Firing.{inSet}
+use Rattle.net.specs.Tests.{any}
+use Rattle.net.specs.Net.{Arcs, Marking, hasBond}
+use Rattle.net.specs.Connection.{connected}
+use Rattle.net.specs.Firing.{inSet, bondsSeen}
 use Rattle.net.specs.Journal.{common}
 use Rattle.net.specs.declared.Bond.{Bond}
 use Rattle.net.specs.declared.Entry.{Entry}
@@ -24,6 +26,14 @@ absentFrom bs b = not (hasBond b bs)
 -- 15: a coupling is no in-coupling, and is among bs
 abbrev pub presentIn : List Bond → List Bond → Bond → Bool
 presentIn ins bs b = not (hasBond b ins) && hasBond b bs
+
+-- 16: two entries of a step have connected bases and different out-places
+abbrev pub tornFrom : Arcs → Marking → Entry → Entry → Bool
+tornFrom t s e d = connected (bondsSeen t (s .bonds)) (e .base) (d .base) && not (eqb (e .to) (d .to))
+
+-- 16: an entry has such a partner
+abbrev pub hasPartner : Arcs → Marking → Entry → Bool
+hasPartner t s e = any (tornFrom t s e) (t .entries)
 
 -- 20: the j-th firing after the one at i moved a base that it moved
 abbrev pub builtAfter : List ℕ → ℕ → ℕ → Bool

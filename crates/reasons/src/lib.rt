@@ -5,12 +5,13 @@ ghost use Prim.Native.Nat.{ℕ, _+_, _-_, _<_, _≤_};
 ghost use Rattle.net.specs.Limits.{maxBases, maxBonds, maxLive};
 ghost use Rattle.net.specs.Tests.{table};
 ghost use Rattle.net.specs.Sorted.{Ascending};
-ghost use Rattle.net.specs.Net.{sameBond, lessBond};
+ghost use Rattle.net.specs.Net.{Arcs, Marking, sameBond, lessBond};
 ghost use Rattle.format.specs.Arcs.{entryCount, nthEntry, arcsIn};
 ghost use Rattle.bonds.specs.Ends.{bondsIn};
 ghost use Rattle.words.specs.Sets.{setOf};
+ghost use Rattle.labels.specs.Labelled.{Parted};
 ghost use Rattle.reasons.specs.First.{firstAt};
-ghost use Rattle.reasons.specs.Reasons.{awayFrom, absentFrom, presentIn, builtAfter, inBoth};
+ghost use Rattle.reasons.specs.Reasons.{awayFrom, absentFrom, presentIn, tornFrom, hasPartner, builtAfter, inBoth};
 use bonds::has_bond;
 use enabling::is_in_bond;
 use format::entry;
@@ -98,6 +99,58 @@ pub fn first_present<'a>(
         let kept = is_in_bond(step, b);
         let here = has_bond(lo, hi, count, b);
         if !kept & here {
+            return i;
+        }
+        i += 1;
+    }
+    n
+}
+
+// Two entries hang together and have different out-places. The callers' entries are of bases below the limit, and their
+// labels are by the marking's bonds, here and below.
+fn is_torn(l: &[Base; MAX_BASES], e: Entry, d: Entry) -> bool
+    requires { ⌜ (e .base < maxBases) × (d .base < maxBases) ⌝ }
+    ensures { λ r. ⌜ ((t : Arcs) (s : Marking) → Parted maxBases (now (l .entry)) (s .bonds) → r ≡ tornFrom t s e d) ⌝ }
+{
+    let x = e.base as usize;
+    let y = d.base as usize;
+    (l[x] == l[y]) & (e.to != d.to)
+}
+
+// 16: the first entry that hangs together with e and has another out-place.
+pub fn first_partner(step: &[u8], l: &[Base; MAX_BASES], e: Entry) -> u8
+    requires { ⌜ e .base < maxBases ⌝ }
+    requires { ⌜ ((i : ℕ) → i < entryCount (now step) → nthEntry (now step) i .base < maxBases) ⌝ }
+    ensures { λ r. ⌜
+        ((s : Marking) → Parted maxBases (now (l .entry)) (s .bonds)
+        → r ≡ firstAt (tornFrom (arcsIn (now (step .entry))) s e) (arcsIn (now (step .entry)) .entries)) ⌝ }
+{
+    let n = entry_count(step);
+    let mut i: u8 = 0;
+    while i < n {
+        let d = entry(step, i);
+        let torn = is_torn(l, e, d);
+        if torn {
+            return i;
+        }
+        i += 1;
+    }
+    n
+}
+
+// 16: the first entry that has such a partner.
+pub fn first_torn(step: &[u8], l: &[Base; MAX_BASES]) -> u8
+    requires { ⌜ ((i : ℕ) → i < entryCount (now step) → nthEntry (now step) i .base < maxBases) ⌝ }
+    ensures { λ r. ⌜
+        ((s : Marking) → Parted maxBases (now (l .entry)) (s .bonds)
+        → r ≡ firstAt (hasPartner (arcsIn (now (step .entry))) s) (arcsIn (now (step .entry)) .entries)) ⌝ }
+{
+    let n = entry_count(step);
+    let mut i: u8 = 0;
+    while i < n {
+        let e = entry(step, i);
+        let other = first_partner(step, l, e);
+        if other < n {
             return i;
         }
         i += 1;

@@ -65,7 +65,7 @@ loop-again c =
       at .loop .inv .0,
       search needs,
       any-on (absentFrom bs) (nthInBond (from .args .step .now)) (at .loop .i) (at .loop .inv .2) _ (b .in-bond .ensures)
-      (ap not (sym (h .has-bond .ensures)) ∙ c .if1 .left),
+          (ap not (sym (h .has-bond .ensures)) ∙ c .if1 .left),
     )
 
 returns-2 : tie.Need-returns-2 Inv-loop μ-loop

@@ -62,7 +62,7 @@ loop-again c =
       at .loop .inv .0,
       search needs,
       any-on (awayFrom (from .args .places .now)) (nthEntry (from .args .step .now)) (at .loop .i) (at .loop .inv .2) _ (a .before .entry .ensures)
-      (sym (a .is-away .ensures) ∙ c .if1 .left),
+          (sym (a .is-away .ensures) ∙ c .if1 .left),
     )
 
 returns-2 : tie.Need-returns-2 Inv-loop μ-loop

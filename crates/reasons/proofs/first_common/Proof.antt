@@ -61,7 +61,7 @@ loop-again c =
     let f = inBoth (setOf maxBases (at .before .args .a)) (setOf maxBases (at .before .args .b)) in (
       search needs,
       any-on f (λ q. q) (at .loop .p) (at .loop .inv .1) (at .loop .p) refl
-      ((λ i. sym (x .has-base .ensures) i && sym (y .has-base2 .ensures) i) ∙ c .if1 .left),
+          ((λ i. sym (x .has-base .ensures) i && sym (y .has-base2 .ensures) i) ∙ c .if1 .left),
     )
 
 returns-2 : tie.Need-returns-2 Inv-loop μ-loop

@@ -68,7 +68,7 @@ loop-again c =
       search needs,
       search needs,
       later-on (from .args .moved .now) (from .args .i) (at .loop .j) (at .loop .inv .1) (at .loop .inv .4)
-      ((λ k. common (setOf maxBases (sym (at .loop .inv .0) k)) (setOf maxBases (getD (from .args .moved .now) (at .loop .j) 0))) ∙ sym (m .shares .ensures) ∙ c .if1 .left),
+          ((λ k. common (setOf maxBases (sym (at .loop .inv .0) k)) (setOf maxBases (getD (from .args .moved .now) (at .loop .j) 0))) ∙ sym (m .shares .ensures) ∙ c .if1 .left),
     )
 
 returns-2 : tie.Need-returns-2 Inv-loop μ-loop

@@ -71,7 +71,7 @@ loop-again c =
       at .loop .inv .0,
       search needs,
       any-on (presentIn (arcsIn s .inBonds) bs) (nthOutBond s) (at .loop .i) (at .loop .inv .2) _ (b .out-bond .ensures)
-      ((λ i. not (sym (k .is-in-bond .ensures) i) && sym (h .has-bond .ensures) i) ∙ c .if1 .left),
+          ((λ i. not (sym (k .is-in-bond .ensures) i) && sym (h .has-bond .ensures) i) ∙ c .if1 .left),
     )
 
 returns-2 : tie.Need-returns-2 Inv-loop μ-loop
