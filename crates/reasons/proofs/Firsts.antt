@@ -1,12 +1,14 @@
 -- The first that passes: found in a table where none passes up to it; what is found passes.
 -- Assumes nothing.
 use mathlib.Core.Path.{_≡_, refl, sym, ap, _∙_}
+use mathlib.Core.Logic.{inl, inr}
 use mathlib.Core.Bool.{Bool, true, false, _||_}
 use mathlib.Core.List.{List, [], _∷_}
 use Prim.Native.Nat.{ℕ, zero, suc, _<_, _≤_}
 use native.Mathlib.Omega.{arith}
 use native.Mathlib.Nat.{le-of-suc-le-suc, not-suc-le-zero}
 use lib.ListN.{length, getD}
+use Rattle.causal.specs.Lists.{Mem}
 use Rattle.causal.proofs.Tests.{both}
 use Rattle.net.specs.Tests.{pick, any, table}
 use Rattle.net.proofs.Tests.{fails, or-no-l, or-no-r}
@@ -67,3 +69,8 @@ module _ {X : Type 0} where
 
   pub first-outside : (f : X → Bool) (n : ℕ) (g : ℕ → X) (r : ℕ) → r ≡ firstAt f (table n g) → n ≤ r → any f (table n g) ≡ false
   first-outside f n g r e h = fails (any f (table n g)) (λ k. let a = first-on f (table n g) k in let b = length-table n g in omega arith)
+
+  -- tests that agree on a list find the same
+  pub first-cong : (f g : X → Bool) (l : List X) → ((x : X) → Mem x l → f x ≡ g x) → firstAt f l ≡ firstAt g l
+  first-cong f g [] h = refl
+  first-cong f g (x ∷ l) h = let a = h x (inl refl) in let b = first-cong f g l (λ y m. h y (inr m)) in λ i. pick (a i) 0 (suc (b i))

@@ -2,3 +2,4 @@
 pub mod Firsts
 pub mod Later
 pub mod Named
+pub mod Built

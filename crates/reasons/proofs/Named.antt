@@ -6,8 +6,10 @@ use mathlib.Core.List.{List, [], _∷_}
 use Prim.Native.Nat.{ℕ, suc, _+_, _-_, _<_}
 use native.Mathlib.Omega.{arith}
 use lib.Dec.{eqb, ltb}
-use lib.ListN.{length, getD}
+use lib.ListN.{length, getD, take}
+use lib.Seq.{getD-take}
 use borrow.Author.Tests.{eq-eqb}
+use Rattle.causal.specs.Lists.{Mem}
 use Rattle.causal.proofs.Tests.{both}
 use Rattle.net.specs.Limits.{maxBases}
 use Rattle.net.specs.Tests.{pick, any, table}
@@ -21,8 +23,8 @@ use Rattle.net.proofs.Tables.{length-table, getD-table}
 use Rattle.firings.specs.Search.{builtOnIn}
 use Rattle.words.specs.Sets.{setOf}
 use Rattle.reasons.specs.First.{firstAt}
-use Rattle.reasons.specs.Reasons.{awayFrom, absentFrom, presentIn, builtAfter, inBoth}
-use Rattle.reasons.proofs.Firsts.{first-on, first-holds}
+use Rattle.reasons.specs.Reasons.{awayFrom, absentFrom, presentIn, tornFrom, hasPartner}
+use Rattle.reasons.proofs.Firsts.{first-on, first-holds, first-cong}
 
 -- The i-th of a list is there, and passes the test.
 pub record Named {X : Type 0} (f : X → Bool) (l : List X) (i : ℕ) : Type 0 where
@@ -100,6 +102,13 @@ module _ (net : Net) (j : Journal) (c : List ℕ) where
       go true h = only (bondPresent t s) h
       go false h = both false h refl
 
+  refused-16 : act net j c .answer ≡ refused 16 → tornApart t s ≡ true
+  refused-16 e = go (eqb (kindOf c) 1) (kind-by 15 e)
+    where
+      go : (b : Bool) → any (holdsBy 16) (pick b (fireChecks net j (transitionNamed c)) (undoChecks j (keyNamed j c))) ≡ true → tornApart t s ≡ true
+      go true h = only (tornApart t s) h
+      go false h = both false h refl
+
   pub refused-20 : act net j c .answer ≡ refused 20 → builtOn (j .lines) (lineOf (keyNamed j c) (j .lines)) ≡ true
   refused-20 e = go (eqb (kindOf c) 1) (kind-by 19 e)
     where
@@ -119,3 +128,14 @@ module _ (net : Net) (j : Journal) (c : List ℕ) where
   pub present-holds : act net j c .answer ≡ refused 15
       → Named (presentIn (t .inBonds) (s .bonds)) (t .outBonds) (firstAt (presentIn (t .inBonds) (s .bonds)) (t .outBonds))
   present-holds e = named (presentIn (t .inBonds) (s .bonds)) (t .outBonds) (refused-15 e)
+
+  -- 16: the entry has a partner, and the partner named hangs together with it and goes elsewhere
+  pub torn-holds : act net j c .answer ≡ refused 16 → Named (hasPartner t s) (t .entries) (firstAt (hasPartner t s) (t .entries))
+      × ((d : Entry) → let e = getD (t .entries) (firstAt (hasPartner t s) (t .entries)) d in Named (tornFrom t s e) (t .entries) (firstAt (tornFrom t s e) (t .entries)))
+  torn-holds h =
+      let n = named (hasPartner t s) (t .entries) (refused-16 h) in
+      (n, λ d. named (tornFrom t s (getD (t .entries) (firstAt (hasPartner t s) (t .entries)) d)) (t .entries) (n .holds d))
+
+-- 13, with the places as they lie: entries are of the first n bases
+pub away-here : (n : ℕ) (places : List ℕ) (es : List Entry) → ((e : Entry) → Mem e es → e .base < n) → firstAt (awayFrom (take n places)) es ≡ firstAt (awayFrom places) es
+away-here n places es h = first-cong (awayFrom (take n places)) (awayFrom places) es (λ e m. ap (λ (x : ℕ). not (eqb x (e .from))) (getD-take n places (e .base) 0 (h e m)))
