@@ -1,8 +1,8 @@
 -- What a reason of refusal 20 says is so: the firing named came later and moved the base named, as the one did that was to
 -- be taken back. By the arrays, then by the lines that lie in them. Assumes nothing.
 use mathlib.Core.Path.{_≡_, refl, sym, ap, _∙_}
-use mathlib.Core.Bool.{Bool, true, false, _&&_, _||_}
-use mathlib.Core.List.{List, [], _∷_, _++_, map}
+use mathlib.Core.Bool.{Bool, true, false, _||_}
+use mathlib.Core.List.{List, [], _∷_, _++_}
 use Prim.Native.Nat.{ℕ, zero, suc, _+_, _*_, _-_, _/_, _%_, _<_, _≤_}
 use native.Mathlib.Omega.{arith}
 use lib.ListN.{length, getD, replicate, length-append}
@@ -10,7 +10,7 @@ use borrow.Author.Tests.{eqb-true}
 use Rattle.causal.specs.Lists.{Mem}
 use Rattle.causal.proofs.Tests.{both}
 use Rattle.net.specs.Limits.{maxBases, maxLive}
-use Rattle.net.specs.Tests.{pick, any, table}
+use Rattle.net.specs.Tests.{any, table}
 use Rattle.net.specs.Firing.{inSet}
 use Rattle.net.specs.Journal.{LiveLine, noLine, common, builtOn}
 use Rattle.net.proofs.Tests.{and-l, and-r}
@@ -23,16 +23,8 @@ use Rattle.firings.specs.Search.{builtOnIn}
 use Rattle.firings.proofs.Laid.{getD-front, mem-at}
 use Rattle.firings.proofs.Built.{built-lines}
 use Rattle.reasons.specs.First.{firstAt}
-use Rattle.reasons.specs.Reasons.{builtAfter, inBoth}
+use Rattle.reasons.specs.Reasons.{builtAfter, inBoth, laterAt, commonAt}
 use Rattle.reasons.proofs.Firsts.{first-on, first-holds}
-
--- where the first firing after the one at i stands, of so many live ones, that moved a base which it moved
-abbrev pub laterAt : ℕ → List ℕ → ℕ → ℕ
-laterAt live moved i = i + 1 + firstAt (builtAfter moved i) (table (live - (i + 1)) (λ j. j))
-
--- the first base of both words
-abbrev pub commonAt : ℕ → ℕ → ℕ
-commonAt a b = firstAt (inBoth (setOf maxBases a) (setOf maxBases b)) (table maxBases (λ p. p))
 
 -- of the numbers below n, the first that passes
 first-number : (f : ℕ → Bool) (n : ℕ) → any f (table n (λ j. j)) ≡ true → (firstAt f (table n (λ j. j)) < n) × (f (firstAt f (table n (λ j. j))) ≡ true)

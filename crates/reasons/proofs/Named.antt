@@ -1,27 +1,22 @@
 -- What a reason says is so: where the journal's answer to a command is the refusal of that number, what the reason names is
 -- on its list and holds the condition. Assumes nothing.
-use mathlib.Core.Path.{_≡_, refl, sym, ap, _∙_}
+use mathlib.Core.Path.{_≡_, refl, ap}
 use mathlib.Core.Bool.{Bool, true, false, not, _&&_, _||_}
 use mathlib.Core.List.{List, [], _∷_}
-use Prim.Native.Nat.{ℕ, suc, _+_, _-_, _<_}
+use Prim.Native.Nat.{ℕ, suc, _-_, _<_}
 use native.Mathlib.Omega.{arith}
-use lib.Dec.{eqb, ltb}
+use lib.Dec.{eqb}
 use lib.ListN.{length, getD, take}
 use lib.Seq.{getD-take}
 use borrow.Author.Tests.{eq-eqb}
 use Rattle.causal.specs.Lists.{Mem}
 use Rattle.causal.proofs.Tests.{both}
-use Rattle.net.specs.Limits.{maxBases}
-use Rattle.net.specs.Tests.{pick, any, table}
+use Rattle.net.specs.Tests.{pick, any}
 use Rattle.net.specs.Net.{Arcs, Marking, Net, arcsOf}
-use Rattle.net.specs.Firing.{inSet, misplaced, bondAbsent, bondPresent, tornApart}
+use Rattle.net.specs.Firing.{misplaced, bondAbsent, bondPresent, tornApart}
 use Rattle.net.specs.Checks.{Check, first, clear}
-use Rattle.net.specs.Journal.{Journal, Answer, fired, undone, refused, LiveLine, lineOf, common, builtOn, kindOf, fireChecks, undoChecks, transitionNamed, keyNamed, checks, fireReply, undoReply, refuse, act}
+use Rattle.net.specs.Journal.{Journal, Answer, fired, undone, refused, lineOf, builtOn, kindOf, fireChecks, undoChecks, transitionNamed, keyNamed, checks, fireReply, undoReply, refuse, act}
 use Rattle.net.specs.declared.Entry.{Entry}
-use Rattle.net.proofs.Tests.{and-l, and-r}
-use Rattle.net.proofs.Tables.{length-table, getD-table}
-use Rattle.firings.specs.Search.{builtOnIn}
-use Rattle.words.specs.Sets.{setOf}
 use Rattle.reasons.specs.First.{firstAt}
 use Rattle.reasons.specs.Reasons.{awayFrom, absentFrom, presentIn, tornFrom, hasPartner}
 use Rattle.reasons.proofs.Firsts.{first-on, first-holds, first-cong}

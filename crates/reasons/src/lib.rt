@@ -1,17 +1,15 @@
 // Why a command was refused (document 01, refusals 13 to 16 and 20): the first entry, coupling or firing of which the
 // condition holds, by its number on its list; the number of all of them where there is none. proofs/Named has what it says.
 ghost use mathlib.Core.Path.{_≡_};
-ghost use Prim.Native.Nat.{ℕ, _+_, _-_, _<_, _≤_};
+ghost use Prim.Native.Nat.{ℕ, _<_, _≤_};
 ghost use Rattle.net.specs.Limits.{maxBases, maxBonds, maxLive};
-ghost use Rattle.net.specs.Tests.{table};
 ghost use Rattle.net.specs.Sorted.{Ascending};
 ghost use Rattle.net.specs.Net.{Arcs, Marking, sameBond, lessBond};
 ghost use Rattle.format.specs.Arcs.{entryCount, nthEntry, arcsIn};
 ghost use Rattle.bonds.specs.Ends.{bondsIn};
-ghost use Rattle.words.specs.Sets.{setOf};
 ghost use Rattle.labels.specs.Labelled.{Parted};
 ghost use Rattle.reasons.specs.First.{firstAt};
-ghost use Rattle.reasons.specs.Reasons.{awayFrom, absentFrom, presentIn, tornFrom, hasPartner, builtAfter, inBoth};
+ghost use Rattle.reasons.specs.Reasons.{awayFrom, absentFrom, presentIn, tornFrom, hasPartner, laterAt, commonAt};
 use bonds::has_bond;
 use enabling::is_in_bond;
 use format::entry;
@@ -162,7 +160,7 @@ pub fn first_torn(step: &[u8], l: &[Base; MAX_BASES]) -> u8
 // i among the live ones.
 pub fn first_later(moved: &[u64; MAX_LIVE], live: usize, i: usize) -> usize
     requires { ⌜ (i < live) × (live ≤ maxLive) ⌝ }
-    ensures { λ r. ⌜ r ≡ i + 1 + firstAt (builtAfter (now (moved .entry)) i) (table (live - (i + 1)) (λ j. j)) ⌝ }
+    ensures { λ r. ⌜ r ≡ laterAt live (now (moved .entry)) i ⌝ }
 {
     let mine = moved[i];
     let mut j = i + 1;
@@ -178,7 +176,7 @@ pub fn first_later(moved: &[u64; MAX_LIVE], live: usize, i: usize) -> usize
 
 // 20: the first base of both sets.
 pub fn first_common(a: u64, b: u64) -> usize
-    ensures { λ r. ⌜ r ≡ firstAt (inBoth (setOf maxBases a) (setOf maxBases b)) (table maxBases (λ p. p)) ⌝ }
+    ensures { λ r. ⌜ r ≡ commonAt a b ⌝ }
 {
     let mut p = 0;
     while p < MAX_BASES {

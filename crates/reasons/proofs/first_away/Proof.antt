@@ -2,12 +2,10 @@
 -- Assumes nothing but the laws of proofs/.
 use borrow.Author.Needs.{needs}
 use native.Mathlib.Omega.{arith}
-use mathlib.Core.Path.{_≡_, refl, ap, sym, subst, _∙_}
-use mathlib.Core.Bool.{Bool, true, false, not, _&&_}
-use mathlib.Core.List.{List}
-use Prim.Native.Nat.{ℕ, _+_, _-_, _<_, _≤_}
-use lib.ListN.{getD}
-use Rattle.net.specs.Limits.{maxBases, maxLive, maxBonds}
+use mathlib.Core.Path.{_≡_, refl, sym, subst, _∙_}
+use mathlib.Core.Bool.{false}
+use Prim.Native.Nat.{_-_, _<_, _≤_}
+use Rattle.net.specs.Limits.{maxBases}
 use Rattle.net.specs.Tests.{any, table}
 use Rattle.net.specs.declared.Entry.{Entry}
 use Rattle.format.specs.Arcs.{entryCount, nthEntry}

@@ -2,16 +2,15 @@
 -- Assumes nothing but the laws of proofs/.
 use borrow.Author.Needs.{needs}
 use native.Mathlib.Omega.{arith}
-use mathlib.Core.Path.{_≡_, refl, ap, sym, subst, _∙_}
-use mathlib.Core.Bool.{Bool, true, false, not, _&&_}
-use mathlib.Core.List.{List}
-use Prim.Native.Nat.{ℕ, _+_, _-_, _<_, _≤_}
-use lib.ListN.{getD}
-use Rattle.net.specs.Limits.{maxBases, maxLive, maxBonds}
+use mathlib.Core.Path.{_≡_, refl}
+use mathlib.Core.Bool.{false}
+use Prim.Native.Nat.{_-_, _<_, _≤_}
+use Rattle.net.specs.Limits.{maxBases}
 use Rattle.net.specs.Tests.{any, table}
 use Rattle.words.specs.Sets.{setOf}
 use Rattle.format.proofs.Loops.{any-on}
 use Rattle.reasons.specs.Reasons.{inBoth}
+use Rattle.reasons.proofs.Tests.{both-by}
 use Rattle.reasons.proofs.Firsts.{first-here, first-none}
 use Rattle.reasons.proofs.first_common.Statement.{statement}
 use Rattle.reasons.proofs.first_common.Tie as tie
@@ -45,7 +44,7 @@ returns c =
     let f = inBoth (setOf maxBases (at .before .args .a)) (setOf maxBases (at .before .args .b)) in
     let h : at .loop .p < maxBases = omega arith in
     first-here f maxBases (at .loop .p) (λ q. q) (at .loop .inv .1) h (at .loop .p) refl
-    ((λ i. sym (x .has-base .ensures) i && sym (y .has-base2 .ensures) i) ∙ c .if1 .taken)
+    (both-by (setOf maxBases (at .before .args .a)) (setOf maxBases (at .before .args .b)) (at .loop .p) _ _ _ (x .has-base .ensures) (y .has-base2 .ensures) (c .if1 .taken))
 
 add-p : tie.Need-add-p Inv-loop μ-loop
 add-p c = search needs
@@ -61,7 +60,7 @@ loop-again c =
     let f = inBoth (setOf maxBases (at .before .args .a)) (setOf maxBases (at .before .args .b)) in (
       search needs,
       any-on f (λ q. q) (at .loop .p) (at .loop .inv .1) (at .loop .p) refl
-          ((λ i. sym (x .has-base .ensures) i && sym (y .has-base2 .ensures) i) ∙ c .if1 .left),
+          (both-by (setOf maxBases (at .before .args .a)) (setOf maxBases (at .before .args .b)) (at .loop .p) _ _ _ (x .has-base .ensures) (y .has-base2 .ensures) (c .if1 .left)),
     )
 
 returns-2 : tie.Need-returns-2 Inv-loop μ-loop

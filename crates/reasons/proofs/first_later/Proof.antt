@@ -2,12 +2,11 @@
 -- Assumes nothing but the laws of proofs/.
 use borrow.Author.Needs.{needs}
 use native.Mathlib.Omega.{arith}
-use mathlib.Core.Path.{_≡_, refl, ap, sym, subst, _∙_}
-use mathlib.Core.Bool.{Bool, true, false, not, _&&_}
-use mathlib.Core.List.{List}
-use Prim.Native.Nat.{ℕ, _+_, _-_, _<_, _≤_}
+use mathlib.Core.Path.{_≡_, sym, _∙_}
+use mathlib.Core.Bool.{false}
+use Prim.Native.Nat.{_+_, _-_, _≤_}
 use lib.ListN.{getD}
-use Rattle.net.specs.Limits.{maxBases, maxLive, maxBonds}
+use Rattle.net.specs.Limits.{maxBases, maxLive}
 use Rattle.net.specs.Tests.{any, table}
 use Rattle.words.specs.Sets.{setOf}
 use Rattle.reasons.specs.Reasons.{builtAfter}

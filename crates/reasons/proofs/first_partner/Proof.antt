@@ -2,14 +2,12 @@
 -- Assumes nothing but the laws of proofs/.
 use borrow.Author.Needs.{needs}
 use native.Mathlib.Omega.{arith}
-use mathlib.Core.Path.{_≡_, refl, ap, sym, subst, _∙_}
-use mathlib.Core.Bool.{Bool, true, false, not, _&&_}
-use mathlib.Core.List.{List}
-use Prim.Native.Nat.{ℕ, _+_, _-_, _<_, _≤_}
-use lib.ListN.{getD}
-use Rattle.net.specs.Limits.{maxBases, maxLive, maxBonds}
+use mathlib.Core.Path.{_≡_, refl, sym, subst, _∙_}
+use mathlib.Core.Bool.{false}
+use Prim.Native.Nat.{_-_, _<_, _≤_}
+use Rattle.net.specs.Limits.{maxBases}
 use Rattle.net.specs.Tests.{any, table}
-use Rattle.net.specs.Net.{Arcs, Marking}
+use Rattle.net.specs.Net.{Marking}
 use Rattle.net.specs.declared.Entry.{Entry}
 use Rattle.labels.specs.Labelled.{Parted}
 use Rattle.format.specs.Arcs.{entryCount, nthEntry, arcsIn}
@@ -67,7 +65,7 @@ loop-again c =
       at .loop .inv .0,
       search needs,
       λ s P. any-on (tornFrom (arcsIn b) s (from .args .e)) (nthEntry b) (at .loop .i) (at .loop .inv .2 s P) _ (a .before .entry .ensures)
-      (sym (a .is-torn .ensures (arcsIn b) s P) ∙ c .if1 .left),
+          (sym (a .is-torn .ensures (arcsIn b) s P) ∙ c .if1 .left),
     )
 
 returns-2 : tie.Need-returns-2 Inv-loop μ-loop

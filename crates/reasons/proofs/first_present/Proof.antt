@@ -2,18 +2,17 @@
 -- Assumes nothing but the laws of proofs/.
 use borrow.Author.Needs.{needs}
 use native.Mathlib.Omega.{arith}
-use mathlib.Core.Path.{_≡_, refl, ap, sym, subst, _∙_}
-use mathlib.Core.Bool.{Bool, true, false, not, _&&_}
+use mathlib.Core.Path.{_≡_, refl, _∙_}
+use mathlib.Core.Bool.{false}
 use mathlib.Core.List.{List}
-use Prim.Native.Nat.{ℕ, _+_, _-_, _<_, _≤_}
-use lib.ListN.{getD}
-use Rattle.net.specs.Limits.{maxBases, maxLive, maxBonds}
+use Prim.Native.Nat.{_-_, _<_, _≤_}
 use Rattle.net.specs.Tests.{any, table}
 use Rattle.net.specs.declared.Bond.{Bond}
 use Rattle.format.specs.Arcs.{outCount, nthOutBond, arcsIn}
 use Rattle.format.proofs.Loops.{any-on}
 use Rattle.bonds.specs.Ends.{bondsIn}
 use Rattle.reasons.specs.Reasons.{presentIn}
+use Rattle.reasons.proofs.Tests.{present-by}
 use Rattle.reasons.proofs.Firsts.{first-here, first-none}
 use Rattle.reasons.proofs.first_present.Statement.{statement}
 use Rattle.reasons.proofs.first_present.Tie as tie
@@ -51,7 +50,7 @@ returns c =
     let bs : List Bond = bondsIn (from .args .lo .now) (from .args .hi .now) (from .args .count) in
     let l : at .loop .i < outCount s = omega arith in
     first-here (presentIn (arcsIn s .inBonds) bs) (outCount s) (at .loop .i) (nthOutBond s) (at .loop .inv .2) l _ (b .out-bond .ensures)
-    ((λ i. not (sym (k .is-in-bond .ensures) i) && sym (h .has-bond .ensures) i) ∙ c .if1 .taken)
+    (present-by (arcsIn s .inBonds) bs (b .out-bond .result) _ _ _ (k .is-in-bond .ensures) (h .has-bond .ensures) (c .if1 .taken))
 
 add-i : tie.Need-add-i Inv-loop μ-loop
 add-i c = search needs
@@ -71,7 +70,7 @@ loop-again c =
       at .loop .inv .0,
       search needs,
       any-on (presentIn (arcsIn s .inBonds) bs) (nthOutBond s) (at .loop .i) (at .loop .inv .2) _ (b .out-bond .ensures)
-          ((λ i. not (sym (k .is-in-bond .ensures) i) && sym (h .has-bond .ensures) i) ∙ c .if1 .left),
+          (present-by (arcsIn s .inBonds) bs (b .out-bond .result) _ _ _ (k .is-in-bond .ensures) (h .has-bond .ensures) (c .if1 .left)),
     )
 
 returns-2 : tie.Need-returns-2 Inv-loop μ-loop

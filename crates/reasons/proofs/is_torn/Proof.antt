@@ -1,18 +1,11 @@
 -- `reasons::is_torn` meets its contract.
 -- Assumes nothing but the laws of proofs/.
 use borrow.Author.Needs.{needs}
-use native.Mathlib.Omega.{arith}
-use mathlib.Core.Path.{_≡_, refl, ap, sym, subst, _∙_}
-use mathlib.Core.Bool.{Bool, true, false, not, _&&_}
-use mathlib.Core.List.{List}
-use Prim.Native.Nat.{ℕ, _+_, _-_, _<_, _≤_}
+use mathlib.Core.Path.{ap}
+use mathlib.Core.Bool.{Bool, not, _&&_}
+use Prim.Native.Nat.{_-_}
 use lib.Dec.{eqb}
-use lib.ListN.{getD}
-use Rattle.net.specs.Limits.{maxBases, maxLive, maxBonds}
-use Rattle.net.specs.Tests.{any, table}
-use Rattle.net.specs.Net.{Arcs, Marking}
 use Rattle.net.specs.declared.Entry.{Entry}
-use Rattle.labels.specs.Labelled.{Parted}
 use Rattle.reasons.proofs.is_torn.Statement.{statement}
 use Rattle.reasons.proofs.is_torn.Tie as tie
 
