@@ -1,5 +1,5 @@
-// Why a command was refused (document 01, refusals 13 to 16 and 20): the first entry, coupling or firing of which the
-// condition holds, by its number on its list; the number of all of them where there is none. proofs/Named has what it says.
+// Why a command was refused (document 01, refusals 13 to 16 and 20): the number of the first entry, coupling, firing or base
+// that holds the condition; how many there are where none does. That what is named holds it: proofs/Named and proofs/Built.
 ghost use mathlib.Core.Path.{_≡_};
 ghost use Prim.Native.Nat.{ℕ, _<_, _≤_};
 ghost use Rattle.net.specs.Limits.{maxBases, maxBonds, maxLive};

@@ -3,7 +3,6 @@
 use borrow.Author.Needs.{needs}
 use mathlib.Core.Path.{ap}
 use mathlib.Core.Bool.{Bool, not, _&&_}
-use Prim.Native.Nat.{_-_}
 use lib.Dec.{eqb}
 use Rattle.net.specs.declared.Entry.{Entry}
 use Rattle.reasons.proofs.is_torn.Statement.{statement}
