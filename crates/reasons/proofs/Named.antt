@@ -72,44 +72,38 @@ module _ (net : Net) (j : Journal) (c : List ℕ) where
       go true false k = absurd (let z : ⊥ = omega arith in z)
       go false b k = k
 
-  -- the checks of a command of that kind
+  -- the check of that number holds
   kind-by : (n : ℕ) → act net j c .answer ≡ refused (suc n) → any (holdsBy (suc n)) (checks net j c) ≡ true
   kind-by n e = first-by (checks net j c) n (refused-first n e)
 
+  -- what each of the two lists says, where the kind decides which it is
+  by-kind : (n : ℕ) (x : Bool) → (any (holdsBy n) (fireChecks net j (transitionNamed c)) ≡ true → x ≡ true)
+      → (any (holdsBy n) (undoChecks j (keyNamed j c)) ≡ true → x ≡ true) → (b : Bool)
+      → any (holdsBy n) (pick b (fireChecks net j (transitionNamed c)) (undoChecks j (keyNamed j c))) ≡ true → x ≡ true
+  by-kind n x f g true h = f h
+  by-kind n x f g false h = g h
+
+  -- no check of that list has the number
+  none : {x : Bool} → false ≡ true → x ≡ true
+  none h = both false h refl
+
   refused-13 : act net j c .answer ≡ refused 13 → misplaced t s ≡ true
-  refused-13 e = go (eqb (kindOf c) 1) (kind-by 12 e)
-    where
-      go : (b : Bool) → any (holdsBy 13) (pick b (fireChecks net j (transitionNamed c)) (undoChecks j (keyNamed j c))) ≡ true → misplaced t s ≡ true
-      go true h = only (misplaced t s) h
-      go false h = both false h refl
+  refused-13 e = by-kind 13 (misplaced t s) (only (misplaced t s)) none (eqb (kindOf c) 1) (kind-by 12 e)
 
   refused-14 : act net j c .answer ≡ refused 14 → bondAbsent t s ≡ true
-  refused-14 e = go (eqb (kindOf c) 1) (kind-by 13 e)
-    where
-      go : (b : Bool) → any (holdsBy 14) (pick b (fireChecks net j (transitionNamed c)) (undoChecks j (keyNamed j c))) ≡ true → bondAbsent t s ≡ true
-      go true h = only (bondAbsent t s) h
-      go false h = both false h refl
+  refused-14 e = by-kind 14 (bondAbsent t s) (only (bondAbsent t s)) none (eqb (kindOf c) 1) (kind-by 13 e)
 
   refused-15 : act net j c .answer ≡ refused 15 → bondPresent t s ≡ true
-  refused-15 e = go (eqb (kindOf c) 1) (kind-by 14 e)
-    where
-      go : (b : Bool) → any (holdsBy 15) (pick b (fireChecks net j (transitionNamed c)) (undoChecks j (keyNamed j c))) ≡ true → bondPresent t s ≡ true
-      go true h = only (bondPresent t s) h
-      go false h = both false h refl
+  refused-15 e = by-kind 15 (bondPresent t s) (only (bondPresent t s)) none (eqb (kindOf c) 1) (kind-by 14 e)
 
   refused-16 : act net j c .answer ≡ refused 16 → tornApart t s ≡ true
-  refused-16 e = go (eqb (kindOf c) 1) (kind-by 15 e)
-    where
-      go : (b : Bool) → any (holdsBy 16) (pick b (fireChecks net j (transitionNamed c)) (undoChecks j (keyNamed j c))) ≡ true → tornApart t s ≡ true
-      go true h = only (tornApart t s) h
-      go false h = both false h refl
+  refused-16 e = by-kind 16 (tornApart t s) (only (tornApart t s)) none (eqb (kindOf c) 1) (kind-by 15 e)
 
+  -- 20: proofs/Built goes on from here
   pub refused-20 : act net j c .answer ≡ refused 20 → builtOn (j .lines) (lineOf (keyNamed j c) (j .lines)) ≡ true
-  refused-20 e = go (eqb (kindOf c) 1) (kind-by 19 e)
-    where
-      go : (b : Bool) → any (holdsBy 20) (pick b (fireChecks net j (transitionNamed c)) (undoChecks j (keyNamed j c))) ≡ true → builtOn (j .lines) (lineOf (keyNamed j c) (j .lines)) ≡ true
-      go true h = both false h refl
-      go false h = only (builtOn (j .lines) (lineOf (keyNamed j c) (j .lines))) h
+  refused-20 e =
+      let b : Bool = builtOn (j .lines) (lineOf (keyNamed j c) (j .lines)) in
+      by-kind 20 b none (only b) (eqb (kindOf c) 1) (kind-by 19 e)
 
   -- 13: the entry's base is not at its in-place
   pub away-holds : act net j c .answer ≡ refused 13 → Named (awayFrom (s .places)) (t .entries) (firstAt (awayFrom (s .places)) (t .entries))
