@@ -53,7 +53,9 @@ pub fn put_chosen(
     n: usize,
 ) -> usize
     requires { ⌜ (at + 2 * n ≤ length (now buf)) × (n ≤ length (now kinds)) × (n ≤ length (now lo)) × (n ≤ length (now hi)) ⌝ }
-    ensures { λ r. ⌜ Wrote (joined (table n (chosenAt (now (kinds .entry)) kind (now (lo .entry)) (now (hi .entry))))) at (now (buf .entry)) r (now (buf .exit)) ⌝ }
+    ensures { λ r. ⌜
+        Wrote (joined (table n (chosenAt (now (kinds .entry)) kind (now (lo .entry)) (now (hi .entry))))) at (now (buf .entry)) r
+        (now (buf .exit)) ⌝ }
 {
     let mut pos = at;
     let mut i = 0;

@@ -6,7 +6,6 @@ use lib.ListN.{length-set}
 use borrow.Author.Tests.{not-true, not-false}
 use native.Mathlib.Omega.{arith}
 use mathlib.Core.Path.{_≡_, refl}
-use Prim.Native.Nat.{_-_}
 use borrow.Author.Needs.{needs}
 use Rattle.encode.proofs.put_if.Statement.{statement}
 use Rattle.encode.proofs.put_if.Tie as tie

@@ -2,7 +2,6 @@
 -- Assumes nothing but the laws of proofs/.
 use Rattle.encode.specs.Encoding.{word}
 use Rattle.text.proofs.Writes.{written-none, written-more, written-pair}
-use Prim.Native.Nat.{_-_}
 use mathlib.Core.List.{List}
 use Prim.Native.Nat.{ℕ}
 use borrow.Author.Needs.{needs}
