@@ -75,8 +75,14 @@ loop-again : tie.Need-loop-again Inv-loop μ-loop
 loop-again c =
     let k = c .before .before .before .before in
     let at : tie.At-loop Inv-loop μ-loop = k .before .before .before .before .before in
-    let st = at .before .before .before in
-    (search needs, search needs, suited (st .args .form .now) (st .args .text .now) (drop (at .loop .j) (st .args .form .now)) (drop (at .loop .i) (st .args .text .now)) _ _ (k .before .before .before .next .ensures) (k .before .before .next2 .ensures) (at .loop .left) (k .before .before .before .before .loop-test .taken) (sym (k .before .closes .ensures) ∙ c .before .before .before .if1 .left) (sym (k .closes2 .ensures) ∙ c .before .before .if2 .left) _ (c .before .suits .ensures) (not-false _ (c .if3 .left)) ∙ at .loop .inv .2)
+    let st = at .before .before .before in (
+      search needs,
+      search needs,
+      suited (st .args .form .now) (st .args .text .now) (drop (at .loop .j) (st .args .form .now)) (drop (at .loop .i) (st .args .text .now)) _ _
+          (k .before .before .before .next .ensures) (k .before .before .next2 .ensures) (at .loop .left) (k .before .before .before .before .loop-test .taken)
+          (sym (k .before .closes .ensures) ∙ c .before .before .before .if1 .left) (sym (k .closes2 .ensures) ∙ c .before .before .if2 .left) _
+          (c .before .suits .ensures) (not-false _ (c .if3 .left)) ∙ at .loop .inv .2,
+    )
 
 returns-4 : tie.Need-returns-4 Inv-loop μ-loop
 returns-4 c =

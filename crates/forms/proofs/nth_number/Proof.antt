@@ -72,8 +72,11 @@ loop-again c =
     let at : tie.At-loop Inv-loop μ-loop = k .before .before .before in
     let st = at .before .before in
     let h = c .before .before in
-    let m = h .before in
-    (search needs, rw (c .one-less .ensures, m .is-number .ensures) (number-later (st .args .text .now) (drop (at .loop .i) (st .args .text .now)) _ (k .before .next .ensures) (at .loop .left) (at .loop .skip) (k .before .before .loop-test .taken) (sym (k .closes .ensures) ∙ m .before .if1 .left) (ap (λ (b : Bool). b && eqb (at .loop .skip) 0) (sym (m .is-number .ensures)) ∙ sym (h .is-here .ensures) ∙ c .before .if2 .left) ∙ at .loop .inv .1))
+    let m = h .before in (
+      search needs,
+      rw (c .one-less .ensures, m .is-number .ensures)
+          (number-later (st .args .text .now) (drop (at .loop .i) (st .args .text .now)) _ (k .before .next .ensures) (at .loop .left) (at .loop .skip) (k .before .before .loop-test .taken) (sym (k .closes .ensures) ∙ m .before .if1 .left) (ap (λ (b : Bool). b && eqb (at .loop .skip) 0) (sym (m .is-number .ensures)) ∙ sym (h .is-here .ensures) ∙ c .before .if2 .left) ∙ at .loop .inv .1),
+    )
 
 returns-3 : tie.Need-returns-3 Inv-loop μ-loop
 returns-3 c =

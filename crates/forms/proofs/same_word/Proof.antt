@@ -55,8 +55,14 @@ loop-less c = search needs
 loop-again : tie.Need-loop-again Inv-loop μ-loop
 loop-again c =
     let at : tie.At-loop Inv-loop μ-loop = c .before .before .before .before .before in
-    let st = at .before in
-    (search needs, search needs, search needs, search needs, same-on (st .args .a .now) (st .args .b .now) (at .loop .i) (st .args .to) (at .loop .j) (st .args .stop) (at .loop .inv .2) (at .loop .inv .3) (omega arith) (omega arith) (c .if2 .left) ∙ at .loop .inv .4)
+    let st = at .before in (
+      search needs,
+      search needs,
+      search needs,
+      search needs,
+      same-on (st .args .a .now) (st .args .b .now) (at .loop .i) (st .args .to) (at .loop .j) (st .args .stop) (at .loop .inv .2) (at .loop .inv .3) (omega arith)
+          (omega arith) (c .if2 .left) ∙ at .loop .inv .4,
+    )
 
 returns-3 : tie.Need-returns-3 Inv-loop μ-loop
 returns-3 c =

@@ -68,8 +68,14 @@ loop-again c =
     let lp : tie.At-loop Inv-loop μ-loop = ad .before .before .before .before in
     let st = lp .before .before in
     let s : List ℕ = st .args .text .now in
-    let h = ad .before .before .end-of .ensures in
-    (search needs, rw (c .counted .ensures) (let z = few-parts (lp .loop .told) (lp .loop .parts) (lp .loop .steps) (ad .before .line-at .result) in omega (arith, h .from)), rw (c .counted .ensures) (let z = few-steps (lp .loop .told) (lp .loop .parts) (lp .loop .steps) (ad .before .line-at .result) in omega (arith, h .from)), omega (arith, h .from), rw (c .counted .ensures) (rest-on s (lp .loop .at) (lp .loop .k) (lp .loop .told) (lp .loop .parts) (lp .loop .steps) (lp .loop .inv .4) _ _ _ (line-here s (lp .loop .at) _ h (c .before .if2 .left)) (ad .before .line-at .ensures) (sym (ad .admitted .ensures) ∙ not-false _ (c .before .before .if1 .left)) _ refl))
+    let h = ad .before .before .end-of .ensures in (
+      search needs,
+      rw (c .counted .ensures) (let z = few-parts (lp .loop .told) (lp .loop .parts) (lp .loop .steps) (ad .before .line-at .result) in omega (arith, h .from)),
+      rw (c .counted .ensures) (let z = few-steps (lp .loop .told) (lp .loop .parts) (lp .loop .steps) (ad .before .line-at .result) in omega (arith, h .from)),
+      omega (arith, h .from),
+      rw (c .counted .ensures)
+          (rest-on s (lp .loop .at) (lp .loop .k) (lp .loop .told) (lp .loop .parts) (lp .loop .steps) (lp .loop .inv .4) _ _ _ (line-here s (lp .loop .at) _ h (c .before .if2 .left)) (ad .before .line-at .ensures) (sym (ad .admitted .ensures) ∙ not-false _ (c .before .before .if1 .left)) _ refl),
+    )
 
 returns-3 : tie.Need-returns-3 Inv-loop μ-loop
 returns-3 c =

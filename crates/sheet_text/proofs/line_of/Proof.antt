@@ -67,7 +67,11 @@ returns-3 c =
     let hf1 = el1 .before in
     let st = hf1 .before .before .before in
     let ts : List Token = row 8 (drop (st .args .at) (st .args .text .now)) in
-    rw (is-blank ts _ false (hf1 .has-form .ensures, el1 .if1 .left), is-places ts _ false (hf2 .has-form2 .ensures, el2 .if2 .left), is-part ts _ true (hf3 .has-form3 .ensures, c .if3 .taken)) (λ i. Part (nn1 .nth-number .ensures i) (nn2 .nth-number2 .ensures i))
+    rw (
+      is-blank ts _ false (hf1 .has-form .ensures, el1 .if1 .left),
+      is-places ts _ false (hf2 .has-form2 .ensures, el2 .if2 .left),
+      is-part ts _ true (hf3 .has-form3 .ensures, c .if3 .taken),
+    ) (λ i. Part (nn1 .nth-number .ensures i) (nn2 .nth-number2 .ensures i))
 
 slice-aggregate-has-form-4 : tie.Need-slice-aggregate-has-form-4
 slice-aggregate-has-form-4 c = search needs
@@ -89,7 +93,12 @@ returns-4 c =
     let hf1 = el1 .before in
     let st = hf1 .before .before .before in
     let ts : List Token = row 8 (drop (st .args .at) (st .args .text .now)) in
-    rw (is-blank ts _ false (hf1 .has-form .ensures, el1 .if1 .left), is-places ts _ false (hf2 .has-form2 .ensures, el2 .if2 .left), is-part ts _ false (hf3 .has-form3 .ensures, el3 .if3 .left), is-coupled ts _ true (hf4 .has-form4 .ensures, c .if4 .taken)) (λ i. Coupled (nn1 .nth-number .ensures i) (nn2 .nth-number2 .ensures i))
+    rw (
+      is-blank ts _ false (hf1 .has-form .ensures, el1 .if1 .left),
+      is-places ts _ false (hf2 .has-form2 .ensures, el2 .if2 .left),
+      is-part ts _ false (hf3 .has-form3 .ensures, el3 .if3 .left),
+      is-coupled ts _ true (hf4 .has-form4 .ensures, c .if4 .taken),
+    ) (λ i. Coupled (nn1 .nth-number .ensures i) (nn2 .nth-number2 .ensures i))
 
 slice-aggregate-has-form-5 : tie.Need-slice-aggregate-has-form-5
 slice-aggregate-has-form-5 c = search needs
@@ -113,7 +122,13 @@ returns-5 c =
     let hf1 = el1 .before in
     let st = hf1 .before .before .before in
     let ts : List Token = row 8 (drop (st .args .at) (st .args .text .now)) in
-    rw (is-blank ts _ false (hf1 .has-form .ensures, el1 .if1 .left), is-places ts _ false (hf2 .has-form2 .ensures, el2 .if2 .left), is-part ts _ false (hf3 .has-form3 .ensures, el3 .if3 .left), is-coupled ts _ false (hf4 .has-form4 .ensures, el4 .if4 .left), is-step ts _ true (hf5 .has-form5 .ensures, c .if5 .taken)) (λ i. Step (nn1 .nth-number .ensures i))
+    rw (
+      is-blank ts _ false (hf1 .has-form .ensures, el1 .if1 .left),
+      is-places ts _ false (hf2 .has-form2 .ensures, el2 .if2 .left),
+      is-part ts _ false (hf3 .has-form3 .ensures, el3 .if3 .left),
+      is-coupled ts _ false (hf4 .has-form4 .ensures, el4 .if4 .left),
+      is-step ts _ true (hf5 .has-form5 .ensures, c .if5 .taken),
+    ) (λ i. Step (nn1 .nth-number .ensures i))
 
 step-line-requires : tie.Need-step-line-requires
 step-line-requires c κs = search needs
@@ -135,7 +150,13 @@ returns-6 c =
     let hf1 = el1 .before in
     let st = hf1 .before .before .before in
     let ts : List Token = row 8 (drop (st .args .at) (st .args .text .now)) in
-    rw (is-blank ts _ false (hf1 .has-form .ensures, el1 .if1 .left), is-places ts _ false (hf2 .has-form2 .ensures, el2 .if2 .left), is-part ts _ false (hf3 .has-form3 .ensures, el3 .if3 .left), is-coupled ts _ false (hf4 .has-form4 .ensures, el4 .if4 .left), is-step ts _ false (hf5 .has-form5 .ensures, el5 .if5 .left)) (c .step-line .ensures)
+    rw (
+      is-blank ts _ false (hf1 .has-form .ensures, el1 .if1 .left),
+      is-places ts _ false (hf2 .has-form2 .ensures, el2 .if2 .left),
+      is-part ts _ false (hf3 .has-form3 .ensures, el3 .if3 .left),
+      is-coupled ts _ false (hf4 .has-form4 .ensures, el4 .if4 .left),
+      is-step ts _ false (hf5 .has-form5 .ensures, el5 .if5 .left),
+    ) (c .step-line .ensures)
 
 pub line-of-spec : {M : Type 1} → statement M
 line-of-spec =

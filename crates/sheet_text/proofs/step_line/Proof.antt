@@ -72,7 +72,11 @@ returns-3 c =
     let hf1 = nn1 .before in
     let st = hf1 .before .before .before in
     let ts : List Token = row 8 (drop (st .args .at) (st .args .text .now)) in
-    rw (is-move ts _ false (hf1 .has-form .ensures, el1 .if1 .left), is-before ts _ false (hf2 .has-form2 .ensures, el2 .if2 .left), is-after ts _ true (hf3 .has-form3 .ensures, c .if3 .taken)) (λ i. After (nn1 .nth-number .ensures i) (nn2 .nth-number2 .ensures i))
+    rw (
+      is-move ts _ false (hf1 .has-form .ensures, el1 .if1 .left),
+      is-before ts _ false (hf2 .has-form2 .ensures, el2 .if2 .left),
+      is-after ts _ true (hf3 .has-form3 .ensures, c .if3 .taken),
+    ) (λ i. After (nn1 .nth-number .ensures i) (nn2 .nth-number2 .ensures i))
 
 returns-4 : tie.Need-returns-4
 unfolding stepLineOf
