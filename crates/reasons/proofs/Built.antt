@@ -1,30 +1,34 @@
 -- What a reason of refusal 20 says is so: the firing named came later and moved the base named, as the one did that was to
 -- be taken back. By the arrays, then by the lines that lie in them. Assumes nothing.
-use mathlib.Core.Path.{_≡_, refl, sym, ap, _∙_}
-use mathlib.Core.Bool.{Bool, true, false, _||_}
+use mathlib.Core.Path.{_≡_, refl, sym, ap, subst, _∙_}
+use mathlib.Core.Bool.{Bool, true, false, _&&_, _||_}
 use mathlib.Core.List.{List, [], _∷_, _++_}
 use Prim.Native.Nat.{ℕ, zero, suc, _+_, _*_, _-_, _/_, _%_, _<_, _≤_}
 use native.Mathlib.Omega.{arith}
+use lib.Dec.{ltb}
 use lib.ListN.{length, getD, replicate, length-append}
 use borrow.Author.Tests.{eqb-true}
 use Rattle.causal.specs.Lists.{Mem}
-use Rattle.causal.proofs.Tests.{both}
+use Rattle.causal.proofs.Tests.{both, test}
 use Rattle.net.specs.Limits.{maxBases, maxLive}
-use Rattle.net.specs.Tests.{any, table}
+use Rattle.net.specs.Tests.{pick, any, table}
 use Rattle.net.specs.Firing.{inSet}
-use Rattle.net.specs.Journal.{LiveLine, noLine, common, builtOn}
-use Rattle.net.proofs.Tests.{and-l, and-r}
+use Rattle.net.specs.Net.{Net}
+use Rattle.net.specs.Journal.{LiveLine, Journal, noLine, sameKey, lineKeys, isLive, lineOf, common, builtOn, keyNamed, refused, act}
+use Rattle.net.specs.declared.Key.{Key}
+use Rattle.net.proofs.Tests.{fails, and-l, and-r, or-no-l, or-no-r, any-e}
 use Rattle.net.proofs.Tables.{length-table, getD-table, getD-table-all}
 use Rattle.net.proofs.Keys.{Up}
 use Rattle.words.specs.Sets.{setOf, packed}
 use Rattle.words.proofs.Bits.{no-bases}
 use Rattle.firings.specs.Lines.{setsOf, firingsOf}
-use Rattle.firings.specs.Search.{builtOnIn}
+use Rattle.firings.specs.Search.{indexOf, builtOnIn}
 use Rattle.firings.proofs.Laid.{getD-front, mem-at}
 use Rattle.firings.proofs.Built.{built-lines}
 use Rattle.reasons.specs.First.{firstAt}
 use Rattle.reasons.specs.Reasons.{builtAfter, inBoth, laterAt, commonAt}
 use Rattle.reasons.proofs.Firsts.{first-on, first-holds}
+use Rattle.reasons.proofs.Named.{refused-20}
 
 -- of the numbers below n, the first that passes
 first-number : (f : ℕ → Bool) (n : ℕ) → any f (table n (λ j. j)) ≡ true → (firstAt f (table n (λ j. j)) < n) × (f (firstAt f (table n (λ j. j))) ≡ true)
@@ -88,6 +92,20 @@ up-later l [] ys u (suc r) h k = u .0 (getD ys r noLine) (mem-at ys noLine r (om
 up-later l (x ∷ xs) ys u zero h k = absurd (let z : ⊥ = omega arith in z)
 up-later l (x ∷ xs) ys u (suc r) h k = up-later l xs ys (u .1) r (omega arith) (omega arith)
 
+-- of lines as they lie in the arrays: the firing named for the one at i, and the base
+abbrev pub laterIn : List LiveLine → ℕ → ℕ
+laterIn ls i = laterAt (length ls) (firingsOf ls .moved) i
+
+abbrev pub baseIn : List LiveLine → ℕ → ℕ
+baseIn ls i = commonAt (getD (firingsOf ls .moved) i 0) (getD (firingsOf ls .moved) (laterIn ls i) 0)
+
+-- The firing named is live and has a higher key than l, the one at i; and both moved the base named.
+pub record CameLater (ls : List LiveLine) (l : LiveLine) (i : ℕ) : Type 0 where
+  pub there : laterIn ls i < length ls
+  pub later : l .key .0 < getD ls (laterIn ls i) noLine .key .0
+  pub mine : inSet (l .moved) (baseIn ls i) ≡ true
+  pub other : inSet (getD ls (laterIn ls i) noLine .moved) (baseIn ls i) ≡ true
+
 module _ (n : ℕ) (l : LiveLine) (xs ys : List LiveLine) (few : n ≤ maxBases) (flags : (k : LiveLine) → Mem k (xs ++ l ∷ ys) → length (k .moved) ≡ n) (up : Up (xs ++ l ∷ ys)) where
   abbrev ls : List LiveLine
   ls = xs ++ l ∷ ys
@@ -100,20 +118,59 @@ module _ (n : ℕ) (l : LiveLine) (xs ys : List LiveLine) (few : n ≤ maxBases)
   word-at i h = getD-front (λ (k : LiveLine). packed (k .moved)) ls (replicate (maxLive - length (setsOf ls)) 0) noLine i h
 
   abbrev at : ℕ
-  at = laterAt (length ls) words (length xs)
+  at = laterIn ls (length xs)
 
   abbrev base : ℕ
-  base = commonAt (getD words (length xs) 0) (getD words at 0)
+  base = baseIn ls (length xs)
 
-  -- 20: the firing named is live and has a higher key, and both moved the base named
-  pub built-holds : builtOn ls l ≡ true → (at < length ls) × (l .key .0 < getD ls at noLine .key .0) × (inSet (l .moved) base ≡ true) × (inSet (getD ls at noLine .moved) base ≡ true)
-  built-holds h =
+  came-later : builtOn ls l ≡ true → CameLater ls l (length xs)
+  came-later h =
       let (there, met) = later-holds (length ls) words (length xs) (built-lines n l xs ys few flags up ∙ h) in
       let (low, mine, other) = word-common-holds (getD words (length xs) 0) (getD words at 0) met in
       let here : length xs < length ls = (let a = length-append xs (l ∷ ys) in omega arith) in
-      let own : getD words (length xs) 0 ≡ packed (l .moved) = word-at (length xs) here ∙ ap (λ (k : LiveLine). packed (k .moved)) (middle l xs ys) in (
-        there,
-        up-later l xs ys up at (omega arith) there,
-        in-packed maxBases (l .moved) base (ap (λ (w : ℕ). inSet (setOf maxBases w) base) (sym own) ∙ mine),
-        in-packed maxBases (getD ls at noLine .moved) base (ap (λ (w : ℕ). inSet (setOf maxBases w) base) (sym (word-at at there)) ∙ other),
-      )
+      let own : getD words (length xs) 0 ≡ packed (l .moved) = word-at (length xs) here ∙ ap (λ (k : LiveLine). packed (k .moved)) (middle l xs ys) in
+      record {
+        there = there;
+        later = up-later l xs ys up at (omega arith) there;
+        mine = in-packed maxBases (l .moved) base (ap (λ (w : ℕ). inSet (setOf maxBases w) base) (sym own) ∙ mine);
+        other = in-packed maxBases (getD ls at noLine .moved) base (ap (λ (w : ℕ). inSet (setOf maxBases w) base) (sym (word-at at there)) ∙ other);
+      }
+
+-- ---- by the command
+
+-- the line of a live key stands where the key does
+line-split : (k : Key) (ls : List LiveLine) → isLive k ls ≡ true → (xs : List LiveLine) × (ys : List LiveLine) × (ls ≡ xs ++ lineOf k ls ∷ ys) × (length xs ≡ indexOf k (lineKeys ls))
+line-split k [] h = both false h refl
+line-split k (l ∷ ls) h = go (sameKey (l .key) k) h (line-split k ls)
+  where
+    go : (b : Bool) → (b || isLive k ls) ≡ true
+        → (isLive k ls ≡ true → (xs : List LiveLine) × (ys : List LiveLine) × (ls ≡ xs ++ lineOf k ls ∷ ys) × (length xs ≡ indexOf k (lineKeys ls)))
+        → (xs : List LiveLine) × (ys : List LiveLine) × (l ∷ ls ≡ xs ++ pick b l (lineOf k ls) ∷ ys) × (length xs ≡ pick b 0 (suc (indexOf k (lineKeys ls))))
+    go true e ih = ([], ls, refl, refl)
+    go false e ih = let (xs, ys, p, q) = ih e in (l ∷ xs, ys, ap (λ (z : List LiveLine). l ∷ z) p, ap suc q)
+
+-- a key that is not live has no line, and nothing is built on none
+line-none : (k : Key) (ls : List LiveLine) → isLive k ls ≡ false → lineOf k ls ≡ noLine
+line-none k [] h = refl
+line-none k (l ∷ ls) h = rw (or-no-l (sameKey (l .key) k) (isLive k ls) h) (line-none k ls (or-no-r (sameKey (l .key) k) (isLive k ls) h))
+
+none-built : (ls : List LiveLine) → builtOn ls noLine ≡ false
+none-built ls = fails (builtOn ls noLine) (λ h. let (m, i, e) = any-e (λ (k : LiveLine). ltb 0 (k .key .0) && false) ls h in both false (and-r (ltb 0 (m .key .0)) false e) refl)
+
+built-live : (k : Key) (ls : List LiveLine) → builtOn ls (lineOf k ls) ≡ true → isLive k ls ≡ true
+built-live k ls h = test (isLive k ls) (λ e. e) (λ e. both (builtOn ls noLine) (ap (builtOn ls) (sym (line-none k ls e)) ∙ h) (none-built ls))
+
+module _ (net : Net) (j : Journal) (c : List ℕ) (n : ℕ) (few : n ≤ maxBases) (flags : (k : LiveLine) → Mem k (j .lines) → length (k .moved) ≡ n) (up : Up (j .lines)) where
+  abbrev key : Key
+  key = keyNamed j c
+
+  -- 20: the firing named came later than the one that was to be taken back, and both moved the base named
+  pub built-holds : act net j c .answer ≡ refused 20 → CameLater (j .lines) (lineOf key (j .lines)) (indexOf key (lineKeys (j .lines)))
+  built-holds r =
+      let l : LiveLine = lineOf key (j .lines) in
+      let h : builtOn (j .lines) l ≡ true = refused-20 net j c r in
+      let (xs, ys, e, p) = line-split key (j .lines) (built-live key (j .lines) h) in
+      subst (λ (ls : List LiveLine). CameLater ls l (indexOf key (lineKeys (j .lines)))) (sym e)
+      (subst (λ (i : ℕ). CameLater (xs ++ l ∷ ys) l i) p
+      (came-later n l xs ys few (λ k m. flags k (subst (λ (ls : List LiveLine). Mem k ls) (sym e) m)) (subst (λ (ls : List LiveLine). Up ls) e up)
+      (subst (λ (ls : List LiveLine). builtOn ls l ≡ true) e h)))
