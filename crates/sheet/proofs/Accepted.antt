@@ -59,10 +59,10 @@ module _ (s : List ℕ) (h : clear (sheetChecks s) ≡ true) where
   tail = clear-r (headChecks s) (checksFrom s 0 (transitionsOf s)) h
 
   -- of the head's checks, the one at i
-  head-at : (i : ℕ) → i < 6 → getD (headChecks s) i (check 0 false) .holds ≡ false
+  pub head-at : (i : ℕ) → i < 6 → getD (headChecks s) i (check 0 false) .holds ≡ false
   head-at i k = not-true _ (all-at off (headChecks s) (check 0 false) i head k)
 
-  at-transition : (t : Transition) (i : ℕ) → t .0 < transitionsOf s → i < 3 → getD (transitionChecks s t) i (check 0 false) .holds ≡ false
+  pub at-transition : (t : Transition) (i : ℕ) → t .0 < transitionsOf s → i < 3 → getD (transitionChecks s t) i (check 0 false) .holds ≡ false
   at-transition t i j d =
       let z : 0 + t .0 ≡ t .0 = omega arith in
       let e : clear (transitionChecks s t) ≡ true = rw z at (from-clear s 0 (transitionsOf s) (t .0) tail j) in
@@ -136,7 +136,7 @@ module _ (s : List ℕ) (h : clear (sheetChecks s) ≡ true) where
 
 -- ---- by the answer
 
-clear-of : (b : Bool) (n : ℕ) → pick b Accepted (Refused n) ≡ Accepted → b ≡ true
+pub clear-of : (b : Bool) (n : ℕ) → pick b Accepted (Refused n) ≡ Accepted → b ≡ true
 clear-of true n e = refl
 clear-of false n e = absurd (let z : _≡_ {A = ℕ} 0 1 = cc in let f : ⊥ = omega arith in f)
 

@@ -1,0 +1,53 @@
+-- The conditions of refusals 13 to 16 and 20, of one entry, coupling, firing or base (01, the turned-away list).
+-- Definitions only. Each is the test of a definition of net or firings, of what that definition asks it.
+use mathlib.Core.Bool.{Bool, not, _&&_}
+use mathlib.Core.List.{List}
+use Prim.Native.Nat.{ℕ, _+_, _-_}
+use lib.Dec.{eqb}
+use lib.ListN.{getD}
+use Rattle.net.specs.Limits.{maxBases}
+use Rattle.net.specs.Tests.{any, table}
+use Rattle.net.specs.Net.{Arcs, Marking, hasBond}
+use Rattle.net.specs.Connection.{connected}
+use Rattle.net.specs.Firing.{inSet, bondsSeen}
+use Rattle.net.specs.Journal.{common}
+use Rattle.net.specs.declared.Bond.{Bond}
+use Rattle.net.specs.declared.Entry.{Entry}
+use Rattle.words.specs.Sets.{setOf}
+use Rattle.reasons.specs.First.{firstAt}
+
+-- 13: an entry's base is not at its in-place
+abbrev pub awayFrom : List ℕ → Entry → Bool
+awayFrom places e = not (eqb (getD places (e .base) 0) (e .from))
+
+-- 14: a coupling is not among bs
+abbrev pub absentFrom : List Bond → Bond → Bool
+absentFrom bs b = not (hasBond b bs)
+
+-- 15: a coupling is no in-coupling, and is among bs
+abbrev pub presentIn : List Bond → List Bond → Bond → Bool
+presentIn ins bs b = not (hasBond b ins) && hasBond b bs
+
+-- 16: two entries of a step have connected bases and different out-places
+abbrev pub tornFrom : Arcs → Marking → Entry → Entry → Bool
+tornFrom t s e d = connected (bondsSeen t (s .bonds)) (e .base) (d .base) && not (eqb (e .to) (d .to))
+
+-- 16: an entry has such a partner
+abbrev pub hasPartner : Arcs → Marking → Entry → Bool
+hasPartner t s e = any (tornFrom t s e) (t .entries)
+
+-- 20: the j-th firing after the one at i moved a base that it moved
+abbrev pub builtAfter : List ℕ → ℕ → ℕ → Bool
+builtAfter moved i j = common (setOf maxBases (getD moved i 0)) (setOf maxBases (getD moved (i + 1 + j) 0))
+
+-- 20: a base is in both sets
+abbrev pub inBoth : List Bool → List Bool → ℕ → Bool
+inBoth a b p = inSet a p && inSet b p
+
+-- 20: where the first of k live firings stands that is after the one at i and moved a base that it moved; k where there is none
+abbrev pub laterAt : ℕ → List ℕ → ℕ → ℕ
+laterAt k moved i = i + 1 + firstAt (builtAfter moved i) (table (k - (i + 1)) (λ j. j))
+
+-- 20: the first base of both words; the number of bases where there is none
+abbrev pub commonAt : ℕ → ℕ → ℕ
+commonAt a b = firstAt (inBoth (setOf maxBases a) (setOf maxBases b)) (table maxBases (λ p. p))
