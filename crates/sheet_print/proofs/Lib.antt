@@ -1,0 +1,3 @@
+-- Laws of a sheet's text: its lines, its lists of lines, its pieces, its room.
+pub mod Lines
+pub mod Lists
