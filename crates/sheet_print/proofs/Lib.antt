@@ -1,3 +1,5 @@
 -- Laws of a sheet's text: its lines, its lists of lines, its pieces, its room.
 pub mod Lines
 pub mod Lists
+pub mod Steps
+pub mod Whole

@@ -23,6 +23,9 @@ use Rattle.sheet_print.specs.Room.{lineRoom, moveRoom}
 pub wrote-both : (b : List ℕ) {b₁ b₂ : List ℕ} (at : ℕ) {k₁ k₂ : ℕ} (v w : List ℕ) → Wrote v at b k₁ b₁ → Wrote w k₁ b₁ k₂ b₂ → Wrote (v ++ w) at b k₂ b₂
 wrote-both b at v w p q = written-pair (written-more w (written-more v (written-none b at) p) q)
 
+pub wrote-three : (b : List ℕ) {b₁ b₂ b₃ : List ℕ} (at : ℕ) {k₁ k₂ k₃ : ℕ} (u v w : List ℕ) → Wrote u at b k₁ b₁ → Wrote v k₁ b₁ k₂ b₂ → Wrote w k₂ b₂ k₃ b₃ → Wrote (u ++ (v ++ w)) at b k₃ b₃
+wrote-three b {b₁} at {k₁} u v w p q r = wrote-both b at u (v ++ w) p (wrote-both b₁ k₁ v w q r)
+
 pub wrote-named : (b : List ℕ) {b₁ b₂ : List ℕ} (at : ℕ) {k₁ k₂ : ℕ} (w : List ℕ) (n : ℕ) → Wrote w at b k₁ b₁ → Wrote (digits 10 n) k₁ b₁ k₂ b₂ → Wrote (named w n) at b k₂ b₂
 unfolding decimal
 wrote-named b at w n p q = wrote-both b at w (digits 10 n) p q

@@ -9,8 +9,8 @@ ghost use Rattle.format.specs.Parts.{basesOf};
 ghost use Rattle.format.specs.Arcs.{entryCount, inCount, outCount};
 ghost use Rattle.format.specs.NetOf.{startBondCount};
 ghost use Rattle.sheet_text.specs.declared.Line.the-variants.{Move};
-ghost use Rattle.sheet_print.specs.Pieces.{lineBytes, named, one, two, three, bondRow, partAt, coupledAt, moveAt, beforeAt, afterAt, partsText, coupledText, movesText, beforeText, afterText};
-ghost use Rattle.sheet_print.specs.Room.{lineRoom, moveRoom};
+ghost use Rattle.sheet_print.specs.Pieces.{lineBytes, named, one, two, three, bondRow, partAt, coupledAt, moveAt, beforeAt, afterAt, partsText, coupledText, movesText, beforeText, afterText, arcsText, stepAt, stepsText};
+ghost use Rattle.sheet_print.specs.Room.{lineRoom, moveRoom, arcsRoom, stepRoom, StepsFit};
 use format::base_count;
 use format::byte_at;
 use format::entry;
@@ -22,8 +22,11 @@ use format::out_count;
 use format::start_bond;
 use format::start_bond_count;
 use format::start_places;
+use format::transition_bytes;
+use format::transition_count;
 use net::Bond;
 use net::Entry;
+use net::Transition;
 use text::put_digits;
 use text::put_word;
 
@@ -200,6 +203,43 @@ fn put_afters(bytes: &[u8], buf: &mut [u8], at: usize) -> usize
     while i < n {
         pos = put_after(bytes, buf, pos, i);
         i += 1;
+    }
+    pos
+}
+
+// ---- Steps
+
+// What a step does: its entries, in-couplings and out-couplings. put_step has room for them.
+fn put_arcs(bytes: &[u8], buf: &mut [u8], at: usize) -> usize
+    requires { ⌜ at + arcsRoom (now bytes) ≤ length (now buf) ⌝ }
+    ensures { λ r. ⌜ Wrote (arcsText (now (bytes .entry))) at (now (buf .entry)) r (now (buf .exit)) ⌝ }
+{
+    let a = put_moves(bytes, buf, at);
+    let b = put_befores(bytes, buf, a);
+    put_afters(bytes, buf, b)
+}
+
+// `step K`, and what it does. put_steps has room for each step.
+fn put_step(sheet: &[u8], buf: &mut [u8], at: usize, k: u8) -> usize
+    requires { ⌜ at + stepRoom (now sheet) k ≤ length (now buf) ⌝ }
+    ensures { λ r. ⌜ Wrote (stepAt (now (sheet .entry)) k) at (now (buf .entry)) r (now (buf .exit)) ⌝ }
+{
+    let bytes = transition_bytes(sheet, Transition(k as u16));
+    let a = put_one(buf, at, b"step ", k);
+    put_arcs(bytes, buf, a)
+}
+
+// All steps. put_net knows from acceptance that each has room behind those before it.
+fn put_steps(sheet: &[u8], buf: &mut [u8], at: usize) -> usize
+    requires { ⌜ StepsFit (now sheet) at (length (now buf)) ⌝ }
+    ensures { λ r. ⌜ Wrote (stepsText (now (sheet .entry))) at (now (buf .entry)) r (now (buf .exit)) ⌝ }
+{
+    let n = transition_count(sheet);
+    let mut pos = at;
+    let mut k: u8 = 0;
+    while k < n {
+        pos = put_step(sheet, buf, pos, k);
+        k += 1;
     }
     pos
 }
