@@ -3,3 +3,5 @@ pub mod Lines
 pub mod Lists
 pub mod Steps
 pub mod Whole
+pub mod Fits
+pub mod Answers

@@ -4,13 +4,18 @@ ghost use mathlib.Core.Path.{_≡_};
 ghost use Prim.Native.Nat.{_+_, _*_, _≤_};
 ghost use lib.ListN.{length};
 ghost use lib.Seq.{sets};
-ghost use Rattle.text.specs.Writes.{Wrote};
+ghost use Rattle.text.specs.Writes.{Wrote, Filled};
 ghost use Rattle.format.specs.Parts.{basesOf};
 ghost use Rattle.format.specs.Arcs.{entryCount, inCount, outCount};
 ghost use Rattle.format.specs.NetOf.{startBondCount};
+ghost use Rattle.sheet.specs.Checks.{checked};
+ghost use Rattle.sheet.specs.declared.SheetAnswer.the-variants.{Accepted};
+ghost use Rattle.sheet_text.specs.Claims.{sheetText};
 ghost use Rattle.sheet_text.specs.declared.Line.the-variants.{Move};
 ghost use Rattle.sheet_print.specs.Pieces.{lineBytes, named, one, two, three, bondRow, partAt, coupledAt, moveAt, beforeAt, afterAt, partsText, coupledText, movesText, beforeText, afterText, arcsText, stepAt, stepsText};
-ghost use Rattle.sheet_print.specs.Room.{lineRoom, moveRoom, arcsRoom, stepRoom, StepsFit};
+ghost use Rattle.sheet_print.specs.Room.{lineRoom, moveRoom, arcsRoom, stepRoom, StepsFit, textRoom};
+ghost use Rattle.sheet_print.specs.Printing.{printedOf, textPrinted};
+ghost use Rattle.sheet_print.specs.declared.Printed.{Printed};
 use format::base_count;
 use format::byte_at;
 use format::entry;
@@ -19,6 +24,7 @@ use format::in_bond;
 use format::in_count;
 use format::out_bond;
 use format::out_count;
+use format::place_count;
 use format::start_bond;
 use format::start_bond_count;
 use format::start_places;
@@ -26,7 +32,10 @@ use format::transition_bytes;
 use format::transition_count;
 use net::Bond;
 use net::Entry;
+use net::MAX_SHEET;
 use net::Transition;
+use sheet::SheetAnswer;
+use sheet::check_sheet;
 use text::put_digits;
 use text::put_word;
 
@@ -35,6 +44,9 @@ pub enum Printed {
     Text(usize),
     Refused(u8),
 }
+
+// The bytes that a caller lends at least: so many for each byte of the longest sheet.
+pub const MAX_TEXT: usize = 30 * MAX_SHEET;
 
 // ---- Lines
 
@@ -242,4 +254,32 @@ fn put_steps(sheet: &[u8], buf: &mut [u8], at: usize) -> usize
         k += 1;
     }
     pos
+}
+
+// ---- The whole sheet
+
+// The text of an accepted sheet, from the buffer's first byte on. print_sheet has checked the sheet and asks for the room.
+fn put_net(sheet: &[u8], buf: &mut [u8]) -> usize
+    requires { ⌜ (checked (now sheet) ≡ Accepted) × (textRoom ≤ length (now buf)) ⌝ }
+    ensures { λ r. ⌜ Filled (sheetText (now (sheet .entry))) (now (buf .entry)) r (now (buf .exit)) ⌝ }
+{
+    let n = place_count(sheet);
+    let a = put_one(buf, 0, b"places ", n);
+    let b = put_parts(sheet, buf, a);
+    let c = put_couplings(sheet, buf, b);
+    put_steps(sheet, buf, c)
+}
+
+// The text of a sheet, from the buffer's first byte on, or its refusal; then the buffer stays as it was. Any bytes may be
+// handed in; the caller lends a buffer of MAX_TEXT bytes or more.
+pub fn print_sheet(sheet: &[u8], buf: &mut [u8]) -> Printed
+    requires { ⌜ textRoom ≤ length (now buf) ⌝ }
+    ensures { λ r. ⌜ r ≡ printedOf (now (sheet .entry)) ⌝ }
+    ensures { λ r. ⌜ now (buf .exit) ≡ sets (now (buf .entry)) 0 (textPrinted (now (sheet .entry))) ⌝ }
+{
+    let answer = check_sheet(sheet);
+    match answer {
+        SheetAnswer::Accepted => Printed::Text(put_net(sheet, buf)),
+        SheetAnswer::Refused(n) => Printed::Refused(n),
+    }
 }

@@ -1,0 +1,124 @@
+-- An accepted sheet's text has room: the text of each stretch is at most lineRoom bytes for each byte of the stretch, and the
+-- stretches follow each other up to the sheet's end. Assumes nothing.
+use mathlib.Core.Path.{_≡_, refl, sym, ap, _∙_}
+use mathlib.Core.Bool.{Bool, true, false, not}
+use Prim.Native.Nat.{ℕ, zero, suc, _+_, _*_, _/_, _<_, _≤_}
+use native.Mathlib.Omega.{arith}
+use native.Mathlib.Nat.{le-of-suc-le-suc, not-suc-le-zero}
+use mathlib.Core.List.{List, [], _++_}
+use lib.Dec.{eqb, ltb, leb}
+use lib.ListN.{length, take, drop, length-take, length-append}
+use borrow.Author.Tests.{eqb-true, lt-ltb, not-false}
+use Rattle.net.specs.Limits.{maxSheet}
+use Rattle.net.specs.Tests.{pick, table}
+use Rattle.net.specs.Checks.{clear, first}
+use Rattle.net.specs.Journal.{transition}
+use Rattle.net.proofs.Tests.{and-l, and-r, or-no-l, or-no-r}
+use Rattle.text.specs.Joined.{joined}
+use Rattle.format.specs.Parts.{basesOf, transitionsOf, pairsOf, offsetOf, lengthOf, partOf, startPlaces, startBonds, transitionBytes}
+use Rattle.format.specs.Arcs.{arcsWidth}
+use Rattle.format.specs.NetOf.{startBondCount}
+use Rattle.sheet_head.specs.Conditions.{follow, partsBegin, wrongPairs}
+use Rattle.sheet_arcs.specs.Conditions.{wrongWidth}
+use Rattle.sheet.specs.Checks.{sheetChecks, checked}
+use Rattle.sheet.specs.Promises.{Promised}
+use Rattle.sheet.specs.declared.SheetAnswer.the-variants.{Accepted}
+use Rattle.sheet.proofs.Accepted.{head-at, at-transition, clear-of, accepted-promised}
+use Rattle.sheet_print.specs.Pieces.{partsText, coupledText, stepAt}
+use Rattle.sheet_print.specs.Room.{lineRoom, stepRoom, StepsFit, textRoom}
+use Rattle.sheet_print.proofs.Lists.{parts-upto, coupled-upto}
+use Rattle.sheet_print.proofs.Steps.{step-fits}
+
+-- ---- stretches that follow each other
+
+follow-next : (s : List ℕ) (at k n : ℕ) → follow s at k (suc n) ≡ true → follow s (at + lengthOf s k) (k + 1) n ≡ true
+follow-next s at k n h = and-r (eqb (offsetOf s k) at) (follow s (at + lengthOf s k) (k + 1) n) h
+
+follow-le : (s : List ℕ) (at k n : ℕ) → follow s at k n ≡ true → at ≤ length s
+follow-le s at k zero h = let e : at ≡ length s = eqb-true at (length s) h in omega arith
+follow-le s at k (suc n) h = let l = follow-le s (at + lengthOf s k) (k + 1) n (follow-next s at k n h) in omega arith
+
+-- texts f of the stretches from k on, none longer than lineRoom bytes for each byte of its stretch: the j-th has room behind those
+-- before it
+texts-fit : (s : List ℕ) (at k n : ℕ) (f : ℕ → List ℕ) → follow s at k n ≡ true → ((i : ℕ) → i < n → length (f i) ≤ lineRoom * lengthOf s (k + i))
+    → (j : ℕ) → j < n → lineRoom * at + length (joined (table j f)) + lineRoom * lengthOf s (k + j) ≤ lineRoom * length s
+texts-fit s at k zero f h g j l = absurd (not-suc-le-zero l)
+texts-fit s at k (suc n) f h g zero l =
+    let e : lengthOf s (k + 0) ≡ lengthOf s k = ap (lengthOf s) (let z : k + 0 ≡ k = omega arith in z) in
+    let b = follow-le s (at + lengthOf s k) (k + 1) n (follow-next s at k n h) in
+    omega arith
+texts-fit s at k (suc n) f h g (suc j) l =
+    let e : lengthOf s (k + 0) ≡ lengthOf s k = ap (lengthOf s) (let z : k + 0 ≡ k = omega arith in z) in
+    let d : lengthOf s (k + 1 + j) ≡ lengthOf s (k + suc j) = ap (lengthOf s) (let z : k + 1 + j ≡ k + suc j = omega arith in z) in
+    let a = length-append (f zero) (joined (table j (λ i. f (suc i)))) in
+    let c = g zero (omega arith) in
+    let b = texts-fit s (at + lengthOf s k) (k + 1) n (λ i. f (suc i)) (follow-next s at k n h) (λ i q.
+    let z : lengthOf s (k + suc i) ≡ lengthOf s (k + 1 + i) = ap (lengthOf s) (let y : k + suc i ≡ k + 1 + i = omega arith in y) in
+    let p = g (suc i) (omega arith) in
+    omega arith) j (le-of-suc-le-suc l) in
+    omega arith
+
+-- ---- the stretches of a sheet
+
+taken : (b : Bool) (n : ℕ) (l : List ℕ) → length (pick b (take n l) []) ≤ n
+taken true n l = simp length-take (omega arith)
+taken false n l = omega arith
+
+part-le : (s : List ℕ) (k : ℕ) → length (partOf s k) ≤ lengthOf s k
+unfolding partOf
+part-le s k = taken (leb (offsetOf s k + lengthOf s k) (length s)) (lengthOf s k) (drop (offsetOf s k) s)
+
+-- the text of stretch k: parts, couplings, then the steps
+abbrev pieceText : List ℕ → ℕ → List ℕ
+pieceText s zero = partsText s
+pieceText s (suc zero) = coupledText s
+pieceText s (suc (suc k)) = stepAt s k
+
+module _ (s : List ℕ) (h : checked s ≡ Accepted) where
+  clears : clear (sheetChecks s) ≡ true
+  unfolding checked
+  clears = clear-of (clear (sheetChecks s)) (first (sheetChecks s)) h
+
+  follows : follow s (partsBegin s) 0 (pairsOf s) ≡ true
+  unfolding wrongPairs
+  follows = not-false _ (or-no-r (ltb (length s) (partsBegin s)) (not (follow s (partsBegin s) 0 (pairsOf s))) (head-at s clears 3 (omega arith)))
+
+  step-bytes : (k : ℕ) → k < transitionsOf s → arcsWidth (transitionBytes s (transition k)) ≤ lengthOf s (2 + k)
+  unfolding wrongWidth transitionBytes
+  step-bytes k l =
+      let b : List ℕ = transitionBytes s (transition k) in
+      let w : length b ≡ arcsWidth b = eqb-true (length b) (arcsWidth b) (not-false _ (or-no-l (not (eqb (length b) (arcsWidth b))) _ (at-transition s clears (transition k) 0 l (omega arith)))) in
+      let z : k + 2 ≡ 2 + k = omega arith in
+      let e : b ≡ partOf s (2 + k) = rw (lt-ltb k (transitionsOf s) l, z) in
+      let d : length b ≡ length (partOf s (2 + k)) = ap (λ (x : List ℕ). length x) e in
+      omega (arith, part-le s (2 + k))
+
+  piece-fits : (i : ℕ) → i < pairsOf s → length (pieceText s i) ≤ lineRoom * lengthOf s (0 + i)
+  piece-fits zero l =
+      let n : length (startPlaces s) ≡ basesOf s = accepted-promised s h .startSize in
+      omega (arith, parts-upto s (basesOf s), part-le s 0)
+  piece-fits (suc zero) l = omega (arith, coupled-upto s (startBondCount s), part-le s 1)
+  piece-fits (suc (suc k)) l =
+      let e : lengthOf s (2 + k) ≡ lengthOf s (0 + suc (suc k)) = ap (lengthOf s) (let z : 2 + k ≡ 0 + suc (suc k) = omega arith in z) in
+      omega (arith, step-fits s k, step-bytes k (omega arith))
+
+  -- behind the first line and the pieces before it, piece j has room
+  piece-room : (j : ℕ) → j < pairsOf s → lineRoom + length (joined (table j (pieceText s))) + lineRoom * lengthOf s (0 + j) ≤ textRoom
+  piece-room j l =
+      let n : length s ≤ maxSheet = accepted-promised s h .size in
+      omega (arith, texts-fit s (partsBegin s) 0 (pairsOf s) (pieceText s) follows piece-fits j l)
+
+  pub parts-room : lineRoom + lineRoom * basesOf s ≤ textRoom
+  parts-room =
+      let n : length (startPlaces s) ≡ basesOf s = accepted-promised s h .startSize in
+      omega (arith, piece-room 0 (omega arith), part-le s 0)
+
+  pub coupled-room : lineRoom + length (partsText s) + lineRoom * startBondCount s ≤ textRoom
+  coupled-room = omega (arith, piece-room 1 (omega arith), part-le s 1, length-append (partsText s) [])
+
+  -- the steps, behind the first line, the parts and the couplings
+  pub steps-room : (at n : ℕ) → at ≤ lineRoom + length (partsText s) + length (coupledText s) → textRoom ≤ n → StepsFit s at n
+  steps-room at n a b k l =
+      let steps : List ℕ = joined (table k (stepAt s)) in
+      let e : lengthOf s (0 + suc (suc k)) ≡ lengthOf s (2 + k) = ap (lengthOf s) (let z : 0 + suc (suc k) ≡ 2 + k = omega arith in z) in
+      omega (arith, piece-room (suc (suc k)) (omega arith), step-bytes k l, length-append (partsText s) (coupledText s ++ steps), length-append (coupledText s) steps)
