@@ -1,8 +1,8 @@
 -- An accepted sheet's text has room: the text of each stretch is at most lineRoom bytes for each byte of the stretch, and the
 -- stretches follow each other up to the sheet's end. Assumes nothing.
-use mathlib.Core.Path.{_≡_, refl, sym, ap, _∙_}
+use mathlib.Core.Path.{_≡_, ap}
 use mathlib.Core.Bool.{Bool, true, false, not}
-use Prim.Native.Nat.{ℕ, zero, suc, _+_, _*_, _/_, _<_, _≤_}
+use Prim.Native.Nat.{ℕ, zero, suc, _+_, _*_, _<_, _≤_}
 use native.Mathlib.Omega.{arith}
 use native.Mathlib.Nat.{le-of-suc-le-suc, not-suc-le-zero}
 use mathlib.Core.List.{List, [], _++_}
@@ -13,19 +13,18 @@ use Rattle.net.specs.Limits.{maxSheet}
 use Rattle.net.specs.Tests.{pick, table}
 use Rattle.net.specs.Checks.{clear, first}
 use Rattle.net.specs.Journal.{transition}
-use Rattle.net.proofs.Tests.{and-l, and-r, or-no-l, or-no-r}
+use Rattle.net.proofs.Tests.{and-r, or-no-l, or-no-r}
 use Rattle.text.specs.Joined.{joined}
-use Rattle.format.specs.Parts.{basesOf, transitionsOf, pairsOf, offsetOf, lengthOf, partOf, startPlaces, startBonds, transitionBytes}
+use Rattle.format.specs.Parts.{basesOf, transitionsOf, pairsOf, offsetOf, lengthOf, partOf, startPlaces, transitionBytes}
 use Rattle.format.specs.Arcs.{arcsWidth}
 use Rattle.format.specs.NetOf.{startBondCount}
 use Rattle.sheet_head.specs.Conditions.{follow, partsBegin, wrongPairs}
 use Rattle.sheet_arcs.specs.Conditions.{wrongWidth}
 use Rattle.sheet.specs.Checks.{sheetChecks, checked}
-use Rattle.sheet.specs.Promises.{Promised}
 use Rattle.sheet.specs.declared.SheetAnswer.the-variants.{Accepted}
 use Rattle.sheet.proofs.Accepted.{head-at, at-transition, clear-of, accepted-promised}
 use Rattle.sheet_print.specs.Pieces.{partsText, coupledText, stepAt}
-use Rattle.sheet_print.specs.Room.{lineRoom, stepRoom, StepsFit, textRoom}
+use Rattle.sheet_print.specs.Room.{lineRoom, StepsFit, textRoom}
 use Rattle.sheet_print.proofs.Lists.{parts-upto, coupled-upto}
 use Rattle.sheet_print.proofs.Steps.{step-fits}
 

@@ -95,23 +95,24 @@ wrote-move b at x y e p = wrote-as b at (lineBytes (Move (x .base) (x .from) (x 
 short : (v w : List ℕ) (m n : ℕ) → v ≡ w → length v ≤ m → m ≤ n → length w ≤ n
 short v w m n e h l = let k : length w ≤ m = subst (λ (t : List ℕ). length t ≤ m) e h in omega arith
 
-pub places-length : (n : ℕ) → length (lineBytes (Places n)) ≤ lineRoom
-places-length n = short (one (ascii "places ") n) (lineBytes (Places n)) 18 lineRoom (places-row n) (one-length (ascii "places ") n) (omega arith)
+-- a line of two numbers, by its words
+two-short : (w v : List ℕ) (g : ℕ → ℕ → Line) → ((p q : ℕ) → two w p v q ≡ lineBytes (g p q)) → length w + length v + 21 ≤ lineRoom → (p q : ℕ) → length (lineBytes (g p q)) ≤ lineRoom
+two-short w v g row l p q = short (two w p v q) (lineBytes (g p q)) (length w + length v + 21) lineRoom (row p q) (two-length w p v q) l
+
+pub part-length : (p x : ℕ) → length (lineBytes (Part p x)) ≤ lineRoom
+part-length = two-short (ascii "part ") (ascii " at ") Part part-row (omega arith)
+
+pub coupled-length : (p q : ℕ) → length (lineBytes (Coupled p q)) ≤ lineRoom
+coupled-length = two-short (ascii "coupled ") (ascii " ") Coupled coupled-row (omega arith)
+
+pub before-length : (p q : ℕ) → length (lineBytes (Before p q)) ≤ lineRoom
+before-length = two-short (ascii "before ") (ascii " ") Before before-row (omega arith)
+
+pub after-length : (p q : ℕ) → length (lineBytes (After p q)) ≤ lineRoom
+after-length = two-short (ascii "after ") (ascii " ") After after-row (omega arith)
 
 pub step-length : (k : ℕ) → length (lineBytes (Step k)) ≤ lineRoom
 step-length k = short (one (ascii "step ") k) (lineBytes (Step k)) 16 lineRoom (step-row k) (one-length (ascii "step ") k) (omega arith)
-
-pub part-length : (p x : ℕ) → length (lineBytes (Part p x)) ≤ lineRoom
-part-length p x = short (two (ascii "part ") p (ascii " at ") x) (lineBytes (Part p x)) 30 lineRoom (part-row p x) (two-length (ascii "part ") p (ascii " at ") x) (omega arith)
-
-pub coupled-length : (p q : ℕ) → length (lineBytes (Coupled p q)) ≤ lineRoom
-coupled-length p q = short (two (ascii "coupled ") p (ascii " ") q) (lineBytes (Coupled p q)) 30 lineRoom (coupled-row p q) (two-length (ascii "coupled ") p (ascii " ") q) (omega arith)
-
-pub before-length : (p q : ℕ) → length (lineBytes (Before p q)) ≤ lineRoom
-before-length p q = short (two (ascii "before ") p (ascii " ") q) (lineBytes (Before p q)) 29 lineRoom (before-row p q) (two-length (ascii "before ") p (ascii " ") q) (omega arith)
-
-pub after-length : (p q : ℕ) → length (lineBytes (After p q)) ≤ lineRoom
-after-length p q = short (two (ascii "after ") p (ascii " ") q) (lineBytes (After p q)) 28 lineRoom (after-row p q) (two-length (ascii "after ") p (ascii " ") q) (omega arith)
 
 pub move-length : (p x y : ℕ) → length (lineBytes (Move p x y)) ≤ moveRoom
 move-length p x y =

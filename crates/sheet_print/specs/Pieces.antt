@@ -14,7 +14,7 @@ use Rattle.format.specs.Parts.{basesOf, transitionsOf, startPlaces, transitionB
 use Rattle.format.specs.Arcs.{entryCount, nthEntry, inCount, nthInBond, outCount, nthOutBond}
 use Rattle.format.specs.NetOf.{startBondCount, nthStartBond}
 use Rattle.sheet_text.specs.declared.Line.{Line}
-use Rattle.sheet_text.specs.declared.Line.the-variants.{Places, Part, Coupled, Step, Move, Before, After}
+use Rattle.sheet_text.specs.declared.Line.the-variants.{Part, Coupled, Step, Move, Before, After}
 use Rattle.sheet_text.specs.Lines.{lineTokens}
 
 -- a line and its newline

@@ -12,7 +12,7 @@ ghost use Rattle.sheet.specs.Checks.{checked};
 ghost use Rattle.sheet.specs.declared.SheetAnswer.the-variants.{Accepted};
 ghost use Rattle.sheet_text.specs.Claims.{sheetText};
 ghost use Rattle.sheet_text.specs.declared.Line.the-variants.{Move};
-ghost use Rattle.sheet_print.specs.Pieces.{lineBytes, named, one, two, three, bondRow, partAt, coupledAt, moveAt, beforeAt, afterAt, partsText, coupledText, movesText, beforeText, afterText, arcsText, stepAt, stepsText};
+ghost use Rattle.sheet_print.specs.Pieces.{lineBytes, named, one, two, bondRow, partAt, coupledAt, moveAt, beforeAt, afterAt, partsText, coupledText, movesText, beforeText, afterText, arcsText, stepAt, stepsText};
 ghost use Rattle.sheet_print.specs.Room.{lineRoom, moveRoom, arcsRoom, stepRoom, StepsFit, textRoom};
 ghost use Rattle.sheet_print.specs.Printing.{printedOf, textPrinted};
 ghost use Rattle.sheet_print.specs.declared.Printed.{Printed};
@@ -246,12 +246,13 @@ fn put_steps(sheet: &[u8], buf: &mut [u8], at: usize) -> usize
     requires { ⌜ StepsFit (now sheet) at (length (now buf)) ⌝ }
     ensures { λ r. ⌜ Wrote (stepsText (now (sheet .entry))) at (now (buf .entry)) r (now (buf .exit)) ⌝ }
 {
-    let n = transition_count(sheet);
+    let mut left = transition_count(sheet);
     let mut pos = at;
     let mut k: u8 = 0;
-    while k < n {
+    while 0 < left {
         pos = put_step(sheet, buf, pos, k);
         k += 1;
+        left -= 1;
     }
     pos
 }

@@ -22,19 +22,22 @@ put-parts-requires : tie.Need-put-parts-requires
 put-parts-requires c κs =
     let from = c .before .before .before .before .before .before .before .before .before in
     let s = from .args .sheet .now in
-    omega (arith, parts-room s (from .pre .0), one-length (ascii "places ") (c .before .before .before .before .before .before .place-count .result))
+    let read = c .before .before .before .before .before .before in
+    omega (arith, parts-room s (from .pre .0), one-length (ascii "places ") (read .place-count .result))
 
 put-couplings-requires : tie.Need-put-couplings-requires
 put-couplings-requires c κs =
     let from = c .before .before .before .before .before .before .before .before .before .before .before .before .before in
     let s = from .args .sheet .now in
-    omega (arith, coupled-room s (from .pre .0), one-length (ascii "places ") (c .before .before .before .before .before .before .before .before .before .before .place-count .result))
+    let read = c .before .before .before .before .before .before .before .before .before .before in
+    omega (arith, coupled-room s (from .pre .0), one-length (ascii "places ") (read .place-count .result))
 
 put-steps-requires : tie.Need-put-steps-requires
 put-steps-requires c κs =
     let from = c .before .before .before .before .before .before .before .before .before .before .before .before .before .before .before .before .before in
     let s = from .args .sheet .now in
-    steps-room s (from .pre .0) _ _ (omega (arith, one-length (ascii "places ") (c .before .before .before .before .before .before .before .before .before .before .before .before .before .before .place-count .result))) (search needs)
+    let read = c .before .before .before .before .before .before .before .before .before .before .before .before .before .before in
+    steps-room s (from .pre .0) _ _ (omega (arith, one-length (ascii "places ") (read .place-count .result))) (search needs)
 
 same-length : tie.Need-same-length
 same-length c = search needs
@@ -43,7 +46,8 @@ returns : tie.Need-returns
 returns c =
     let from = c .before .before .before .before .before .before .before .before .before .before .before .before .before .before .before .before .before .before .before .before in
     let s = from .args .sheet .now in
-    wrote-net (from .args .buf .now) s (c .before .before .before .before .before .before .before .before .before .before .before .before .before .before .before .before .before .place-count .result) (from .pre .0) (c .before .before .before .before .before .before .before .before .before .before .before .before .before .before .before .before .before .place-count .ensures) (c .before .before .before .before .before .before .before .before .before .before .before .before .before .before .put-one .ensures) (c .before .before .before .before .before .before .before .before .before .before .put-parts .ensures) (c .before .before .before .before .before .before .put-couplings .ensures) (c .before .before .put-steps .ensures)
+    let read = c .before .before .before .before .before .before .before .before .before .before .before .before .before .before .before .before .before in
+    wrote-net (from .args .buf .now) s (read .place-count .result) (from .pre .0) (read .place-count .ensures) (c .before .before .before .before .before .before .before .before .before .before .before .before .before .before .put-one .ensures) (c .before .before .before .before .before .before .before .before .before .before .put-parts .ensures) (c .before .before .before .before .before .before .put-couplings .ensures) (c .before .before .put-steps .ensures)
 
 pub put-net-spec : {M : Type 1} → statement M
 put-net-spec =

@@ -3,7 +3,7 @@
 use borrow.Author.Needs.{needs}
 use native.Mathlib.Omega.{arith}
 use mathlib.Core.Path.{_≡_}
-use Prim.Native.Nat.{_-_, _≤_}
+use Prim.Native.Nat.{_+_}
 use lib.ListN.{length}
 use Rattle.net.specs.Tests.{table}
 use Rattle.text.specs.Joined.{joined}
@@ -16,11 +16,11 @@ use Rattle.sheet_print.proofs.put_steps.Statement.{statement}
 use Rattle.sheet_print.proofs.put_steps.Tie as tie
 
 abbrev Inv-loop : tie.InvT-loop
-Inv-loop sheet buf₀ at n pos₀ k₀ buf pos k =
-    (k ≤ n) × (n ≡ transitionsOf sheet) × StepsFit sheet at (length buf₀) × (length buf ≡ length buf₀) × Written buf₀ at (joined (table k (stepAt sheet))) pos buf
+Inv-loop sheet buf₀ at left₀ pos₀ k₀ buf left pos k =
+    (k + left ≡ left₀) × (left₀ ≡ transitionsOf sheet) × StepsFit sheet at (length buf₀) × (length buf ≡ length buf₀) × Written buf₀ at (joined (table k (stepAt sheet))) pos buf
 
 abbrev μ-loop : tie.MeasureT-loop
-μ-loop sheet buf₀ at n pos₀ k₀ buf pos k = n - k
+μ-loop sheet buf₀ at left₀ pos₀ k₀ buf left pos k = left
 
 transition-count-requires : tie.Need-transition-count-requires Inv-loop μ-loop
 transition-count-requires c κs = search needs
@@ -37,6 +37,9 @@ put-step-requires c κs =
 
 add-k : tie.Need-add-k Inv-loop μ-loop
 add-k c = search needs
+
+sub-left : tie.Need-sub-left Inv-loop μ-loop
+sub-left c = search needs
 
 loop-less : tie.Need-loop-less Inv-loop μ-loop
 loop-less c = search needs
@@ -68,6 +71,7 @@ put-steps-spec =
     loop-holds
     put-step-requires
     add-k
+    sub-left
     loop-less
     loop-again
     same-length
