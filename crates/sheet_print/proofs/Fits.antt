@@ -2,7 +2,7 @@
 -- stretches follow each other up to the sheet's end. Assumes nothing.
 use mathlib.Core.Path.{_≡_, ap}
 use mathlib.Core.Bool.{Bool, true, false, not}
-use Prim.Native.Nat.{ℕ, zero, suc, _+_, _*_, _<_, _≤_}
+use Prim.Native.Nat.{ℕ, zero, suc, _+_, _-_, _*_, _<_, _≤_}
 use native.Mathlib.Omega.{arith}
 use native.Mathlib.Nat.{le-of-suc-le-suc, not-suc-le-zero}
 use mathlib.Core.List.{List, [], _++_}
@@ -15,6 +15,7 @@ use Rattle.net.specs.Checks.{clear, first}
 use Rattle.net.specs.Journal.{transition}
 use Rattle.net.proofs.Tests.{and-r, or-no-l, or-no-r}
 use Rattle.text.specs.Joined.{joined}
+use Rattle.text.proofs.Joined.{joined-more}
 use Rattle.format.specs.Parts.{basesOf, transitionsOf, pairsOf, offsetOf, lengthOf, partOf, startPlaces, transitionBytes}
 use Rattle.format.specs.Arcs.{arcsWidth}
 use Rattle.format.specs.NetOf.{startBondCount}
@@ -23,7 +24,7 @@ use Rattle.sheet_arcs.specs.Conditions.{wrongWidth}
 use Rattle.sheet.specs.Checks.{sheetChecks, checked}
 use Rattle.sheet.specs.declared.SheetAnswer.the-variants.{Accepted}
 use Rattle.sheet.proofs.Accepted.{head-at, at-transition, clear-of, accepted-promised}
-use Rattle.sheet_print.specs.Pieces.{partsText, coupledText, stepAt}
+use Rattle.sheet_print.specs.Pieces.{partsText, coupledText, stepAt, stepsText}
 use Rattle.sheet_print.specs.Room.{lineRoom, StepsFit, textRoom}
 use Rattle.sheet_print.proofs.Lists.{parts-upto, coupled-upto}
 use Rattle.sheet_print.proofs.Steps.{step-fits}
@@ -121,3 +122,14 @@ module _ (s : List ℕ) (h : checked s ≡ Accepted) where
       let steps : List ℕ = joined (table k (stepAt s)) in
       let e : lengthOf s (0 + suc (suc k)) ≡ lengthOf s (2 + k) = ap (lengthOf s) (let z : 0 + suc (suc k) ≡ 2 + k = omega arith in z) in
       omega (arith, piece-room (suc (suc k)) (omega arith), step-bytes k l, length-append (partsText s) (coupledText s ++ steps), length-append (coupledText s) steps)
+
+  -- all of it: the last step has room
+  pub all-room : lineRoom + length (partsText s) + length (coupledText s) + length (stepsText s) ≤ textRoom
+  all-room =
+      let some = accepted-promised s h .transitions in
+      let k : ℕ = transitionsOf s - 1 in
+      let e : k + 1 ≡ transitionsOf s = omega arith in
+      let last : length (joined (table (k + 1) (stepAt s))) ≡ length (joined (table k (stepAt s)) ++ stepAt s k) = ap (λ (t : List ℕ). length t) (joined-more k (stepAt s)) in
+      let all : length (joined (table (k + 1) (stepAt s))) ≡ length (stepsText s) = ap (λ (n : ℕ). length (joined (table n (stepAt s)))) e in
+      let fit = steps-room (lineRoom + length (partsText s) + length (coupledText s)) textRoom (omega arith) (omega arith) k (omega arith) in
+      omega (arith, fit, step-fits s k, length-append (joined (table k (stepAt s))) (stepAt s k))

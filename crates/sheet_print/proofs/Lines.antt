@@ -111,6 +111,9 @@ before-length = two-short (ascii "before ") (ascii " ") Before before-row (omega
 pub after-length : (p q : ℕ) → length (lineBytes (After p q)) ≤ lineRoom
 after-length = two-short (ascii "after ") (ascii " ") After after-row (omega arith)
 
+pub places-length : (n : ℕ) → length (lineBytes (Places n)) ≤ lineRoom
+places-length n = short (one (ascii "places ") n) (lineBytes (Places n)) 18 lineRoom (places-row n) (one-length (ascii "places ") n) (omega arith)
+
 pub step-length : (k : ℕ) → length (lineBytes (Step k)) ≤ lineRoom
 step-length k = short (one (ascii "step ") k) (lineBytes (Step k)) 16 lineRoom (step-row k) (one-length (ascii "step ") k) (omega arith)
 

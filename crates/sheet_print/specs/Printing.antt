@@ -27,3 +27,8 @@ printedOf s = printedBy (checked s) (sheetText s)
 -- the bytes that it writes, from the first of the buffer on
 unfoldable pub textPrinted : List ℕ → List ℕ
 textPrinted s = textBy (checked s) (sheetText s)
+
+-- where the text ends that an answer speaks of
+abbrev pub endOf : Printed → ℕ
+endOf (printed.Text n) = n
+endOf (printed.Refused n) = 0

@@ -14,7 +14,7 @@ ghost use Rattle.sheet_text.specs.Claims.{sheetText};
 ghost use Rattle.sheet_text.specs.declared.Line.the-variants.{Move};
 ghost use Rattle.sheet_print.specs.Pieces.{lineBytes, named, one, two, bondRow, partAt, coupledAt, moveAt, beforeAt, afterAt, partsText, coupledText, movesText, beforeText, afterText, arcsText, stepAt, stepsText};
 ghost use Rattle.sheet_print.specs.Room.{lineRoom, moveRoom, arcsRoom, stepRoom, StepsFit, textRoom};
-ghost use Rattle.sheet_print.specs.Printing.{printedOf, textPrinted};
+ghost use Rattle.sheet_print.specs.Printing.{printedOf, textPrinted, endOf};
 ghost use Rattle.sheet_print.specs.declared.Printed.{Printed};
 use format::base_count;
 use format::byte_at;
@@ -277,6 +277,7 @@ pub fn print_sheet(sheet: &[u8], buf: &mut [u8]) -> Printed
     requires { ⌜ textRoom ≤ length (now buf) ⌝ }
     ensures { λ r. ⌜ r ≡ printedOf (now (sheet .entry)) ⌝ }
     ensures { λ r. ⌜ now (buf .exit) ≡ sets (now (buf .entry)) 0 (textPrinted (now (sheet .entry))) ⌝ }
+    ensures { λ r. ⌜ endOf r ≤ textRoom ⌝ }
 {
     let answer = check_sheet(sheet);
     match answer {
