@@ -155,7 +155,7 @@ fn counted(told: bool, parts: usize, steps: usize, l: Line) -> Counts
 }
 
 // The line between two positions, which the caller has found in the text.
-fn line_at(text: &[u8], at: usize, to: usize) -> Line
+pub fn line_at(text: &[u8], at: usize, to: usize) -> Line
     requires { ⌜ (at ≤ to) × (to ≤ length (now text)) ⌝ }
     ensures { λ r. ⌜ r ≡ lineOf (row 8 (slice at to (now (text .entry)))) ⌝ }
 {
