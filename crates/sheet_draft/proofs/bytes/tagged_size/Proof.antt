@@ -1,0 +1,38 @@
+-- `sheet_draft::bytes::tagged_size` meets its contract.
+-- Assumes nothing but the laws of proofs/.
+use Rattle.sheet_draft.proofs.Writing.{times-upto}
+use Rattle.sheet_draft.proofs.Tagged.{count-upto, tagged-length}
+use native.Mathlib.Omega.{arith}
+use mathlib.Core.Path.{_≡_, refl, ap, sym, _∙_}
+use Prim.Native.Nat.{ℕ, suc, _+_, _-_, _*_, _<_, _≤_}
+use lib.ListN.{length, getD, take, drop, set}
+use mathlib.Core.List.{List, [], _∷_, _++_}
+use borrow.Author.Needs.{needs}
+use Rattle.sheet_draft.proofs.bytes.tagged_size.Statement.{statement}
+use Rattle.sheet_draft.proofs.bytes.tagged_size.Tie as tie
+use Rattle.sheet_draft.proofs.bytes.tagged_size.Reads as reads
+use Rattle.sheet_draft.proofs.bytes.tagged_size.Lts as lts
+use Rattle.sheet_draft.proofs.counts.count_of.Reads as count-of-reads
+
+-- src/bytes.rt:100:9
+count-of-requires : tie.Need-count-of-requires
+count-of-requires c κs = search needs
+
+-- src/bytes.rt:100:5
+mul-result : tie.Need-mul-result
+mul-result c =
+    let st = c .before .before in
+    let n = count-upto (st .args .tag) (st .args .acts .now) in
+    let h = times-upto (st .args .w) (c .count-of .result) (st .pre .0) (omega (arith, c .count-of .ensures)) in
+    omega arith
+
+-- src/bytes.rt:96:1
+returns : tie.Need-returns
+returns c =
+    let st = c .before .before in
+    let n = count-upto (st .args .tag) (st .args .acts .now) in
+    let h = times-upto (st .args .w) (c .count-of .result) (st .pre .0) (omega (arith, c .count-of .ensures)) in
+    (ap (λ (k : ℕ). st .args .w * k) (c .count-of .ensures) ∙ sym (tagged-length (st .args .w) (st .args .tag) (st .args .acts .now) (st .pre .0)), h)
+
+pub tagged-size-spec : {M : Type 1} → statement M
+tagged-size-spec = tie.close (tie.spec count-of-requires mul-result returns)
