@@ -1,29 +1,22 @@
 -- Acts say the net that the lines fold to: one line more is one act more in one list of the net.
 -- Assumes nothing.
-use mathlib.Core.Path.{_≡_, refl, sym, ap, subst, _∙_}
-use mathlib.Core.Bool.{Bool, true, false, not, _&&_, _||_}
+use mathlib.Core.Path.{_≡_, sym, ap, _∙_}
+use mathlib.Core.Bool.{true, false, not}
 use Prim.Native.Nat.{ℕ, zero, suc, _+_, _*_, _<_, _≤_}
 use native.Mathlib.Omega.{arith}
 use native.Mathlib.Numerals.{add-one}
-use mathlib.Core.List.{List, [], _∷_, _++_, map, foldl, map-append, append-nil}
-use lib.Dec.{eqb, leb}
+use mathlib.Core.List.{List, [], _∷_, _++_, map, map-append, append-nil}
+use lib.Dec.{eqb}
 use lib.ListN.{length, length-append}
-use borrow.Author.Tests.{eq-eqb, ne-eqb, leb-true}
-use Rattle.net.specs.Tests.{pick, all, table}
-use Rattle.net.specs.Net.{Arcs, Net, bond, noArcs}
-use Rattle.net.specs.declared.Bond.{Bond}
-use Rattle.net.specs.declared.Entry.{Entry}
-use Rattle.net.proofs.Tests.{and-l, and-r}
+use borrow.Author.Tests.{eq-eqb, ne-eqb}
+use Rattle.net.specs.Tests.{table}
+use Rattle.net.specs.Net.{Arcs, bond, noArcs}
 use Rattle.net.proofs.Tables.{table-cong, table-snoc, table-more}
 use Rattle.lexing.proofs.Items.{never}
-use Rattle.sheet_text.specs.Lines.{most}
-use Rattle.sheet_text.specs.Reading.{draft, none, onLast, arcs, inStep, admits, added}
-use Rattle.sheet_text.specs.declared.Line.{Line}
-use Rattle.sheet_text.specs.declared.Line.the-variants.{Blank, Places, Part, Coupled, Step, Move, Before, After, Wrong}
+use Rattle.sheet_text.specs.Reading.{draft, none, onLast, arcs, inStep, added}
+use Rattle.sheet_text.specs.declared.Line.the-variants.{Part, Coupled, Step, Move, Before, After}
 use Rattle.sheet_text.proofs.NetBack.{last}
-use Rattle.sheet_text.proofs.Small.{ofBytes}
 use Rattle.sheet_draft.specs.Acts.{actOf, tagOf, firstOf, secondOf, thirdOf, ofTag, bondOf, entryOf, partTag, coupledTag, moveTag, beforeTag, afterTag, placesIn, bondsAt, entriesAt, stepIn, netIn}
-use Rattle.sheet_draft.specs.Notes.{noteOf}
 use Rattle.sheet_draft.proofs.Tagged.{of-append}
 
 -- ---- an act says what it was made of

@@ -7,3 +7,5 @@ pub mod Sizes
 pub mod Says
 pub mod Sheet
 pub mod Makes
+pub mod Back
+pub mod Samples

@@ -1,7 +1,7 @@
 -- Collecting a text's acts line by line: what is left of its lines, one act more, and what a line's note is at most.
 -- Assumes nothing.
 use mathlib.Core.Path.{_≡_, refl, sym, ap, _∙_}
-use mathlib.Core.Bool.{Bool, true, false, _&&_}
+use mathlib.Core.Bool.{Bool, true, false}
 use Prim.Native.Nat.{ℕ, zero, suc, _+_, _*_, _<_, _≤_}
 use native.Mathlib.Omega.{arith}
 use native.Mathlib.Numerals.{add-one}
@@ -11,19 +11,18 @@ use lib.ListN.{length, take, drop, set, length-set}
 use lib.Seq.{slice, take-set-le, take-suc-set}
 use borrow.Author.Tests.{ltb-true, ltb-false, leb-true, le-leb, lt-leb}
 use Rattle.net.specs.Tests.{pick, all}
-use Rattle.net.proofs.Tests.{and-l}
 use Rattle.lexing.specs.Tokens.{linesOf, row}
 use Rattle.lexing.specs.Found.{Reaches}
 use Rattle.lexing.specs.declared.Class.the-variants.{InLine}
 use Rattle.lexing.proofs.Items.{never}
-use Rattle.sheet_text.specs.Lines.{most, lineOf}
+use Rattle.sheet_text.specs.Lines.{lineOf}
 use Rattle.sheet_text.specs.declared.Line.{Line}
 use Rattle.sheet_text.specs.declared.Line.the-variants.{Blank, Places, Part, Coupled, Step, Move, Before, After, Wrong}
 use Rattle.sheet_text.proofs.FirstLine.{line-here, line-last}
 use Rattle.sheet_text.proofs.Small.{ofBytes, line-bytes}
 use Rattle.sheet_draft.specs.declared.Note.{Note}
 use Rattle.sheet_draft.specs.declared.Noted.{Noted}
-use Rattle.sheet_draft.specs.Notes.{noteOf, Notes, notes, after, noted, blankNotes, linesIn, notesOf, mostBytes, Collected}
+use Rattle.sheet_draft.specs.Notes.{noteOf, Notes, notes, after, noted, linesIn, notesOf, mostBytes, Collected}
 
 -- ---- the lines from a position on; none behind the last
 

@@ -1,16 +1,16 @@
 -- What the code makes of a text is what specs/Made says: a mistake, a sheet that is too large, the bytes.
 -- Assumes nothing.
 use mathlib.Core.Path.{_≡_, refl, sym, ap, subst, _∙_}
-use mathlib.Core.Bool.{Bool, true, false, _&&_}
-use Prim.Native.Nat.{ℕ, _+_, _*_, _≤_}
+use mathlib.Core.Bool.{true, false, _&&_}
+use Prim.Native.Nat.{ℕ, _≤_}
 use native.Mathlib.Omega.{arith}
 use mathlib.Core.List.{List, []}
 use lib.Dec.{leb}
 use lib.ListN.{length, take}
 use lib.Seq.{sets, length-take-le}
 use borrow.Author.Tests.{leb-true}
-use Rattle.net.specs.Tests.{pick, all, table}
-use Rattle.net.specs.Net.{Arcs, Net}
+use Rattle.net.specs.Tests.{pick, all}
+use Rattle.net.specs.Net.{Net}
 use Rattle.net.proofs.Tables.{length-table}
 use Rattle.encode.specs.Encoding.{bytesOf}
 use Rattle.sheet_text.specs.Reading.{Reading, understood, mistake, readText}
@@ -19,11 +19,11 @@ use Rattle.sheet_text.specs.declared.Mistake as M
 use Rattle.sheet_draft.specs.declared.Made.{Made}
 use Rattle.sheet_draft.specs.declared.Made.the-variants.{Sheet, Mistake, TooLarge}
 use Rattle.sheet_draft.specs.declared.Noted.{Noted}
-use Rattle.sheet_draft.specs.Acts.{stepIn, netIn}
-use Rattle.sheet_draft.specs.Bytes.{countOf, countsFit, sheetIn, Fits, madeIn, bytesIn}
+use Rattle.sheet_draft.specs.Acts.{stepIn}
+use Rattle.sheet_draft.specs.Bytes.{countsFit, sheetIn, Fits, madeIn, bytesIn}
 use Rattle.sheet_draft.specs.Notes.{Notes, notes, notesOf, mostBytes, Collected}
 use Rattle.sheet_draft.specs.Made.{holdableStep, holdable, madeOf, sheetMade}
-use Rattle.sheet_draft.proofs.Sizes.{sizeOf, bytes-length}
+use Rattle.sheet_draft.proofs.Sizes.{bytes-length}
 use Rattle.sheet_draft.proofs.Says.{Says, says-text, from-one}
 use Rattle.sheet_draft.proofs.Sheet.{sheet-is, counts-fit}
 

@@ -1,14 +1,13 @@
 -- The notes of an understood text say its net and how many bytes its sheet has.
 -- Assumes nothing.
-use mathlib.Core.Path.{_≡_, refl, sym, ap, subst, _∙_}
-use mathlib.Core.Bool.{Bool, true, false, not, _&&_, _||_}
-use Prim.Native.Nat.{ℕ, zero, suc, _+_, _*_, _<_, _≤_}
+use mathlib.Core.Path.{_≡_, refl, ap, subst, _∙_}
+use mathlib.Core.Bool.{Bool, true, false, _&&_, _||_}
+use Prim.Native.Nat.{ℕ, suc, _+_, _*_, _≤_}
 use native.Mathlib.Omega.{arith}
 use mathlib.Core.List.{List, [], _∷_, _++_, map, foldl, append-nil}
 use lib.Dec.{leb}
-use lib.ListN.{length, take}
 use borrow.Author.Tests.{leb-true}
-use Rattle.net.specs.Tests.{pick, all, table}
+use Rattle.net.specs.Tests.{pick, all}
 use Rattle.net.specs.Net.{Net}
 use Rattle.net.proofs.Tests.{and-l, and-r, and-i}
 use Rattle.lexing.specs.Tokens.{Token, linesOf, row}
@@ -18,7 +17,7 @@ use Rattle.sheet_text.specs.Reading.{nothing, isPlaces, admits, added, Reading,
 use Rattle.sheet_text.specs.declared.Line.{Line}
 use Rattle.sheet_text.specs.declared.Line.the-variants.{Blank, Places, Part, Coupled, Step, Move, Before, After, Wrong}
 use Rattle.sheet_text.proofs.Small.{ofBytes, line-bytes}
-use Rattle.sheet_draft.specs.Acts.{actOf, tagOf, partTag, coupledTag, netIn}
+use Rattle.sheet_draft.specs.Acts.{tagOf, partTag, coupledTag, netIn}
 use Rattle.sheet_draft.specs.Notes.{Notes, notes, noted, noteOf, blankNotes, linesIn, notesOf}
 use Rattle.sheet_draft.proofs.Draft.{Below, below-more, tag-back, part-adds, coupled-adds, step-adds, move-adds, before-adds, after-adds}
 use Rattle.sheet_draft.proofs.Sizes.{sizeOf, size-added}

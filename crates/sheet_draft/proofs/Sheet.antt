@@ -1,24 +1,22 @@
 -- The bytes of the net that acts say are the bytes of the acts, and the tests on the counts are those of the net.
 -- Assumes nothing.
-use mathlib.Core.Path.{_≡_, refl, sym, ap, subst, _∙_}
-use mathlib.Core.Bool.{Bool, true, false, _&&_}
-use Prim.Native.Nat.{ℕ, zero, suc, _+_, _*_, _<_, _≤_}
+use mathlib.Core.Path.{_≡_, refl, ap, subst, _∙_}
+use mathlib.Core.Bool.{Bool, true, _&&_}
+use Prim.Native.Nat.{ℕ, zero, suc, _+_, _*_, _<_}
 use native.Mathlib.Omega.{arith}
 use mathlib.Core.List.{List, [], _∷_, _++_, map}
 use lib.Dec.{leb}
-use lib.ListN.{length, getD, length-map}
-use Rattle.net.specs.Tests.{pick, all, table}
-use Rattle.net.specs.Net.{Arcs, Net}
+use lib.ListN.{length, length-map}
+use Rattle.net.specs.Tests.{all, table}
 use Rattle.net.proofs.Tests.{and-l, and-r, all-at}
 use Rattle.net.proofs.Tables.{length-table, getD-table, table-cong}
 use Rattle.text.specs.Joined.{joined}
 use Rattle.format.specs.Bytes.{headerWidth, pairWidth}
-use Rattle.encode.specs.Encoding.{entryBytes, bondBytes, allBonds, arcsBytes, stretches, pairs, bytesOf}
+use Rattle.encode.specs.Encoding.{entryBytes, allBonds, arcsBytes, stretches, pairs, bytesOf}
 use Rattle.encode.proofs.Covers.{map-table}
-use Rattle.sheet_draft.specs.Acts.{firstOf, ofTag, bondOf, entryOf, partTag, coupledTag, moveTag, beforeTag, afterTag, placesIn, stepIn, netIn}
-use Rattle.sheet_draft.specs.Bytes.{bytesAt, tagged, countOf, stepBytes, stepFits, stretchAt, stretchesIn, stretchFits, AllFit, countsFit, sheetIn}
-use Rattle.sheet_draft.specs.Made.{holdableStep, holdable}
-use Rattle.sheet_draft.specs.Notes.{mostBytes}
+use Rattle.sheet_draft.specs.Acts.{firstOf, ofTag, bondOf, entryOf, partTag, coupledTag, moveTag, beforeTag, afterTag, stepIn, netIn}
+use Rattle.sheet_draft.specs.Bytes.{bytesAt, countOf, stepBytes, stepFits, stretchAt, stretchesIn, AllFit, countsFit, sheetIn}
+use Rattle.sheet_draft.specs.Made.{holdableStep}
 
 -- ---- bytes
 

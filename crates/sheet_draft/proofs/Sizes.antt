@@ -1,8 +1,8 @@
 -- How many bytes a net has, and how many a line adds.
 -- Assumes nothing.
-use mathlib.Core.Path.{_≡_, refl, sym, ap, _∙_}
+use mathlib.Core.Path.{_≡_, refl, ap}
 use mathlib.Core.Bool.{Bool, true, not}
-use Prim.Native.Nat.{ℕ, zero, suc, _+_, _*_}
+use Prim.Native.Nat.{ℕ, suc, _+_, _*_}
 use native.Mathlib.Omega.{arith}
 use mathlib.Core.List.{List, [], _∷_, _++_, map}
 use lib.ListN.{length, length-append, length-map}
@@ -10,7 +10,7 @@ use Rattle.net.specs.Net.{Arcs, Net, bond, noArcs}
 use Rattle.net.specs.declared.Bond.{Bond}
 use Rattle.net.specs.declared.Entry.{Entry}
 use Rattle.text.specs.Joined.{joined}
-use Rattle.encode.specs.Encoding.{entryBytes, bondBytes, allBonds, arcsBytes, stretches, pairs, bytesOf}
+use Rattle.encode.specs.Encoding.{entryBytes, allBonds, arcsBytes, stretches, pairs, bytesOf}
 use Rattle.lexing.proofs.Items.{never}
 use Rattle.sheet_text.specs.Reading.{none, onLast, arcs, admits, added}
 use Rattle.sheet_text.specs.declared.Line.{Line}

@@ -1,11 +1,11 @@
 -- Writers of acts: one act more, a step's three lists, stretches and pairs one behind the other.
 -- Assumes nothing.
-use mathlib.Core.Path.{_≡_, refl, sym, ap, subst, _∙_}
-use mathlib.Core.Bool.{Bool, true, false, _&&_}
+use mathlib.Core.Path.{_≡_, refl, ap, subst, _∙_}
+use mathlib.Core.Bool.{true, _&&_}
 use Prim.Native.Nat.{ℕ, zero, suc, _+_, _*_, _-_, _<_, _≤_}
 use native.Mathlib.Omega.{arith}
 use native.Mathlib.Nat.{mul-le-mul, zero-add}
-use mathlib.Core.List.{List, [], _∷_, _++_, append-assoc, append-nil}
+use mathlib.Core.List.{List, [], _∷_, _++_}
 use lib.Dec.{eqb, leb}
 use lib.ListN.{length, getD, take, length-append}
 use borrow.Author.Tests.{leb-true}
@@ -15,11 +15,11 @@ use Rattle.net.proofs.Tables.{table-more, length-table}
 use Rattle.text.specs.Joined.{joined}
 use Rattle.text.specs.Writes.{Wrote, Filled}
 use Rattle.text.proofs.Writes.{Written, written-none, written-more, written-pair}
-use Rattle.text.proofs.Joined.{joined-snoc, joined-more}
+use Rattle.text.proofs.Joined.{joined-more}
 use Rattle.encode.specs.Encoding.{word, pairs}
 use Rattle.sheet_draft.specs.Acts.{tagOf, partTag, coupledTag, moveTag, beforeTag, afterTag}
 use Rattle.sheet_draft.specs.Bytes.{bytesAt, tagged, countOf, counted, stepBytes, stepFits, stretchAt, stretchFits, stretchesIn, sheetIn}
-use Rattle.sheet_draft.proofs.Tagged.{tagged-more, tagged-length}
+use Rattle.sheet_draft.proofs.Tagged.{tagged-more}
 
 -- one act more
 pub tagged-written : {l now : List ℕ} {at k : ℕ} (w t : ℕ) (acts : List ℕ) (i v : ℕ) {k′ : ℕ} {now′ : List ℕ} → i < length acts → v ≡ pick (eqb (tagOf (getD acts i 0)) t) w 0

@@ -1,7 +1,7 @@
 -- Acts: the lines of a text that name a part's place, a coupling or an entry, each as one number, and the net that acts say.
 -- Definitions only.
 use Prim.Native.Nat.{ℕ, _+_, _*_, _/_, _%_}
-use mathlib.Core.List.{List, [], _∷_, map}
+use mathlib.Core.List.{List, map}
 use lib.Dec.{eqb}
 use lib.ListN.{length}
 use Rattle.net.specs.Tests.{keep, table}

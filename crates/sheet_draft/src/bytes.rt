@@ -2,7 +2,7 @@
 // where the bytes end; each caller has checked that the buffer has room for just these bytes.
 ghost use mathlib.Core.Path.{_≡_};
 ghost use mathlib.Core.Bool.{true};
-ghost use Prim.Native.Nat.{_+_, _*_, _≤_, _<_};
+ghost use Prim.Native.Nat.{_+_, _*_, _≤_};
 ghost use lib.ListN.{length};
 ghost use Rattle.text.specs.Joined.{joined};
 ghost use Rattle.text.specs.Writes.{Wrote, Filled};

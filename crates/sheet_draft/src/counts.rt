@@ -1,13 +1,11 @@
 // How many acts there are of a tag, and whether each count of a step is of one byte.
 ghost use mathlib.Core.Path.{_≡_};
 ghost use mathlib.Core.Bool.{_&&_};
-ghost use Prim.Native.Nat.{_≤_, _+_};
-ghost use lib.Dec.{leb};
-ghost use lib.ListN.{length};
+ghost use Prim.Native.Nat.{_≤_};
+ghost use lib.Dec.{eqb, leb};
 ghost use Rattle.net.specs.Tests.{pick, all, table};
 ghost use Rattle.sheet_draft.specs.Acts.{tagOf};
 ghost use Rattle.sheet_draft.specs.Bytes.{countOf, stepFits, countsFit};
-ghost use lib.Dec.{eqb};
 
 // w where an act is of a tag, else 0.
 pub fn width_of(x: u64, tag: u64, w: usize) -> usize

@@ -1,6 +1,6 @@
 // The acts of a text's lines, each as one number, into a lent array.
 ghost use mathlib.Core.Path.{_≡_};
-ghost use Prim.Native.Nat.{_≤_, _<_};
+ghost use Prim.Native.Nat.{_≤_};
 ghost use lib.ListN.{length};
 ghost use Rattle.sheet_draft.specs.Notes.{noAct, anAct, noteOf, Collected};
 use crate::Note;

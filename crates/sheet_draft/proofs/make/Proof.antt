@@ -3,59 +3,42 @@
 use Rattle.sheet_draft.proofs.Makes.{is-understood, too-long, to-make, made}
 use borrow.Author.Tests.{not-true, not-false}
 use lib.Seq.{length-take-le}
-use native.Mathlib.Omega.{arith}
-use mathlib.Core.Path.{_≡_, refl, ap, sym, _∙_}
-use Prim.Native.Nat.{ℕ, suc, _+_, _-_, _*_, _<_, _≤_}
-use lib.ListN.{length, getD, take, drop, set}
-use mathlib.Core.List.{List, [], _∷_, _++_}
+use mathlib.Core.Path.{sym, _∙_}
+use lib.ListN.{take}
 use borrow.Author.Needs.{needs}
 use Rattle.sheet_draft.proofs.make.Statement.{statement}
 use Rattle.sheet_draft.proofs.make.Tie as tie
-use Rattle.sheet_draft.proofs.make.Reads as reads
-use Rattle.sheet_draft.proofs.make.Lts as lts
-use Rattle.sheet_draft.proofs.act_room.Reads as act-room-reads
-use Rattle.sheet_draft.proofs.make_sheet.Reads as make-sheet-reads
-use Rattle.sheet_draft.proofs.notes.collect.Reads as collect-reads
 
--- src/lib.rt:73:20
 act-room-requires : tie.Need-act-room-requires
 act-room-requires c κs = search needs
 
--- src/lib.rt:74:34
 slice-aggregate-collect : tie.Need-slice-aggregate-collect
 slice-aggregate-collect c = search needs
 
--- src/lib.rt:74:9
 collect-requires : tie.Need-collect-requires
 collect-requires c κs = search needs
 
--- src/lib.rt:76:9
 returns : tie.Need-returns
 returns c =
     let st = c .before .before .before .before .before .before .before .before in
     let (net, e) = is-understood (st .args .text .now) (st .pre .0) in
     too-long (st .args .text .now) net e (st .args .buf .now) (sym (not-true _ (c .if1 .taken)) ∙ c .before .before .before .collect .ensures .fits)
 
--- src/lib.rt:79:21
 array-share-prefix-acts : tie.Need-array-share-prefix-acts
 array-share-prefix-acts c = search needs
 
--- src/lib.rt:79:21
 slice-aggregate-make-sheet : tie.Need-slice-aggregate-make-sheet
 slice-aggregate-make-sheet c = sym (length-take-le (c .before .before .before .before .before .collect .result .acts) _ (c .before .before .before .before .before .collect .ensures .room))
 
--- src/lib.rt:79:5
 make-sheet-requires : tie.Need-make-sheet-requires
 make-sheet-requires c κs =
     let st = c .before .before .before .before .before .before .before .before .before .before in
     let (net, e) = is-understood (st .args .text .now) (st .pre .0) in
     (to-make (st .args .text .now) net e _ _ (c .before .before .before .before .before .collect .ensures) (not-false _ (c .before .before .if1 .left)), st .pre .1)
 
--- src/lib.rt:68:1
 same-length : tie.Need-same-length
 same-length c = search needs
 
--- src/lib.rt:68:1
 returns-2 : tie.Need-returns-2
 returns-2 c =
     let st = c .before .before .before .before .before .before .before .before .before .before .before .before .before in

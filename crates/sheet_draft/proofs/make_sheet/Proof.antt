@@ -7,38 +7,26 @@ use borrow.Author.Tests.{not-true, not-false, leb-true}
 use mathlib.Core.Bool.{true, false}
 use native.Mathlib.Omega.{arith}
 use mathlib.Core.Path.{_≡_, refl, ap, sym, _∙_}
-use Prim.Native.Nat.{ℕ, suc, _+_, _-_, _*_, _<_, _≤_}
-use lib.ListN.{length, getD, take, drop, set}
-use mathlib.Core.List.{List, [], _∷_, _++_}
+use lib.ListN.{take}
 use borrow.Author.Needs.{needs}
 use Rattle.sheet_draft.proofs.make_sheet.Statement.{statement}
 use Rattle.sheet_draft.proofs.make_sheet.Tie as tie
-use Rattle.sheet_draft.proofs.make_sheet.Reads as reads
-use Rattle.sheet_draft.proofs.make_sheet.Lts as lts
-use Rattle.sheet_draft.proofs.bytes.put_sheet.Reads as put-sheet-reads
-use Rattle.sheet_draft.proofs.counts.count_of.Reads as count-of-reads
-use Rattle.sheet_draft.proofs.counts.counts_fit.Reads as counts-fit-reads
 
--- src/lib.rt:58:9
 count-of-requires : tie.Need-count-of-requires
 count-of-requires c κs = search needs
 
--- src/lib.rt:59:9
 counts-fit-requires : tie.Need-counts-fit-requires
 counts-fit-requires c κs = search needs
 
--- src/lib.rt:61:9
 returns : tie.Need-returns
 returns c =
     let st = c .before .before .before .before .before in
     let t : countsFit (st .args .steps) (st .args .acts .now) ≡ false = sym (c .before .counts-fit .ensures) ∙ not-true _ (c .if1 .taken) in
     rw t (refl, refl)
 
--- src/lib.rt:63:44
 cast-put-sheet : tie.Need-cast-put-sheet
 cast-put-sheet c = search needs
 
--- src/lib.rt:63:58
 cast-put-sheet-2 : tie.Need-cast-put-sheet-2
 cast-put-sheet-2 c =
     let st = c .before .before .before .before .before .before in
@@ -46,7 +34,6 @@ cast-put-sheet-2 c =
     let n = leb-true (countOf 0 (st .args .acts .now)) 255 (few-parts (st .args .acts .now) (st .args .steps) t) in
     omega (arith, c .before .before .before .count-of .ensures)
 
--- src/lib.rt:63:71
 cast-put-sheet-3 : tie.Need-cast-put-sheet-3
 cast-put-sheet-3 c =
     let st = c .before .before .before .before .before .before in
@@ -54,7 +41,6 @@ cast-put-sheet-3 c =
     let n = leb-true (st .args .steps) 255 (few-steps (st .args .acts .now) (st .args .steps) t) in
     omega arith
 
--- src/lib.rt:63:9
 put-sheet-requires : tie.Need-put-sheet-requires
 put-sheet-requires c κs =
     let st = c .before .before .before .before .before .before in
@@ -70,11 +56,9 @@ put-sheet-requires c κs =
       st .pre .1,
     )
 
--- src/lib.rt:53:1
 same-length : tie.Need-same-length
 same-length c = search needs
 
--- src/lib.rt:53:1
 returns-2 : tie.Need-returns-2
 returns-2 c =
     let st = c .before .before .before .before .before .before .before .before .before in

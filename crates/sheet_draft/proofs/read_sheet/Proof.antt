@@ -2,40 +2,28 @@
 -- Assumes nothing but the laws of proofs/.
 use Rattle.sheet_draft.proofs.Makes.{mistaken}
 use Rattle.sheet_text.specs.declared.Mistake as M
-use native.Mathlib.Omega.{arith}
-use mathlib.Core.Path.{_≡_, refl, ap, sym, _∙_}
-use Prim.Native.Nat.{ℕ, suc, _+_, _-_, _*_, _<_, _≤_}
-use lib.ListN.{length, getD, take, drop, set}
-use mathlib.Core.List.{List, [], _∷_, _++_}
+use mathlib.Core.Path.{ap, sym, _∙_}
+use lib.ListN.{take}
 use borrow.Author.Needs.{needs}
 use Rattle.sheet_draft.proofs.read_sheet.Statement.{statement}
 use Rattle.sheet_draft.proofs.read_sheet.Tie as tie
-use Rattle.sheet_draft.proofs.read_sheet.Reads as reads
-use Rattle.sheet_draft.proofs.read_sheet.Lts as lts
-use Rattle.sheet_draft.proofs.make.Reads as make-reads
-use Rattle.sheet_text.proofs.first_mistake.Reads as first-mistake-reads
 
--- src/lib.rt:89:9
 first-mistake-requires : tie.Need-first-mistake-requires
 first-mistake-requires c κs = search needs
 
--- src/lib.rt:93:9
 returns : tie.Need-returns
 returns c =
     let st = c .before .before .before .before in
     mistaken (st .args .text .now) (c .before .first-mistake .result) (st .args .buf .now) (c .before .first-mistake .ensures) (c .if1 .taken)
 
--- src/lib.rt:95:5
 make-requires : tie.Need-make-requires
 make-requires c κs =
     let st = c .before .before .before .before .before in
     (ap (λ (m : M.Mistake). m .line) (sym (c .before .before .first-mistake .ensures)) ∙ c .before .if1 .left, st .pre)
 
--- src/lib.rt:84:1
 same-length : tie.Need-same-length
 same-length c = search needs
 
--- src/lib.rt:84:1
 returns-2 : tie.Need-returns-2
 returns-2 c = (c .before .before .make .ensures .0, c .before .before .make .ensures .1)
 

@@ -3,50 +3,36 @@
 use Rattle.sheet_draft.proofs.Writing.{counted-written}
 use Rattle.sheet_draft.specs.Bytes.{tagged}
 use native.Mathlib.Omega.{arith}
-use mathlib.Core.Path.{_≡_, refl, ap, sym, _∙_}
-use Prim.Native.Nat.{ℕ, suc, _+_, _-_, _*_, _<_, _≤_}
-use lib.ListN.{length, getD, take, drop, set}
-use mathlib.Core.List.{List, [], _∷_, _++_}
+use Prim.Native.Nat.{suc, _+_, _≤_}
+use lib.ListN.{length}
 use borrow.Author.Needs.{needs}
 use Rattle.sheet_draft.proofs.bytes.put_counted.Statement.{statement}
 use Rattle.sheet_draft.proofs.bytes.put_counted.Tie as tie
-use Rattle.sheet_draft.proofs.bytes.put_counted.Reads as reads
-use Rattle.sheet_draft.proofs.bytes.put_counted.Lts as lts
-use Rattle.sheet_draft.proofs.bytes.put_tagged.Reads as put-tagged-reads
-use Rattle.sheet_draft.proofs.counts.count_of.Reads as count-of-reads
-use Rattle.text.proofs.put_word.Reads as put-word-reads
 
--- src/bytes.rt:50:9
 count-of-requires : tie.Need-count-of-requires
 count-of-requires c κs = search needs
 
--- src/bytes.rt:51:16
 cast-t9 : tie.Need-cast-t9
 cast-t9 c = search needs
 
--- src/bytes.rt:52:31
 slice-aggregate-put-word : tie.Need-slice-aggregate-put-word
 slice-aggregate-put-word c = search needs
 
--- src/bytes.rt:52:9
 put-word-requires : tie.Need-put-word-requires
 put-word-requires c κs =
     let st = c .before .before .before .before .before in
     let h : st .args .at + suc (length (tagged (st .args .w) (st .args .tag) (st .args .acts .now))) ≤ length (st .args .buf .now) = st .pre .2 in
     omega arith
 
--- src/bytes.rt:53:5
 put-tagged-requires : tie.Need-put-tagged-requires
 put-tagged-requires c κs =
     let st = c .before .before .before .before .before .before .before .before .before in
     let h : st .args .at + suc (length (tagged (st .args .w) (st .args .tag) (st .args .acts .now))) ≤ length (st .args .buf .now) = st .pre .2 in
     (st .pre .0, omega arith)
 
--- src/bytes.rt:46:1
 same-length : tie.Need-same-length
 same-length c = search needs
 
--- src/bytes.rt:46:1
 returns : tie.Need-returns
 returns c =
     let st = c .before .before .before .before .before .before .before .before .before .before .before .before in

@@ -7,16 +7,11 @@ use Rattle.encode.specs.Encoding.{pairs}
 use Rattle.text.specs.Joined.{joined}
 use borrow.Author.Needs.{needs}
 use native.Mathlib.Omega.{arith}
-use mathlib.Core.Path.{_≡_, refl, ap, sym, _∙_}
-use Prim.Native.Nat.{ℕ, suc, _+_, _-_, _*_, _<_, _≤_}
-use lib.ListN.{length, getD, take, drop, set}
-use mathlib.Core.List.{List, [], _∷_, _++_}
+use mathlib.Core.Path.{_≡_}
+use Prim.Native.Nat.{_+_, _-_, _*_, _≤_}
+use lib.ListN.{length}
 use Rattle.sheet_draft.proofs.bytes.put_pairs.Statement.{statement}
 use Rattle.sheet_draft.proofs.bytes.put_pairs.Tie as tie
-use Rattle.sheet_draft.proofs.bytes.put_pairs.Reads as reads
-use Rattle.sheet_draft.proofs.bytes.put_pairs.Lts as lts
-use Rattle.encode.proofs.put_pair.Reads as put-pair-reads
-use Rattle.sheet_draft.proofs.bytes.stretch_size.Reads as stretch-size-reads
 
 abbrev Inv-loop : tie.InvT-loop
 Inv-loop buf₀ at acts n from pos₀ offset₀ j₀ buf pos offset j = (j ≤ n) × (n ≤ 257) × (length acts ≤ 65535) × (from + length (joined (stretchesIn n acts)) ≤ 65535) × (at + 4 * n ≤ length buf₀) × (length buf ≡ length buf₀) × (offset ≡ from + length (joined (stretchesIn j acts))) × Written buf₀ at (pairs from (stretchesIn j acts)) pos buf
@@ -24,15 +19,12 @@ Inv-loop buf₀ at acts n from pos₀ offset₀ j₀ buf pos offset j = (j ≤ n
 abbrev μ-loop : tie.MeasureT-loop
 μ-loop buf₀ at acts n from pos₀ offset₀ j₀ buf pos offset j = n - j
 
--- src/bytes.rt:137:5
 loop-holds : tie.Need-loop-holds Inv-loop μ-loop
 loop-holds c = (search needs, search needs, search needs, search needs, search needs, search needs, search needs, written-none _ _)
 
--- src/bytes.rt:138:13
 stretch-size-requires : tie.Need-stretch-size-requires Inv-loop μ-loop
 stretch-size-requires c κs = search needs
 
--- src/bytes.rt:139:34
 cast-put-pair : tie.Need-cast-put-pair Inv-loop μ-loop
 cast-put-pair c =
     let lp : tie.At-loop Inv-loop μ-loop = c .before .before .before in
@@ -40,7 +32,6 @@ cast-put-pair c =
     let u = joined-upto (stretchAt (st .args .acts .now)) (st .args .n) (lp .loop .j) (omega arith) in
     omega (arith, u)
 
--- src/bytes.rt:139:49
 cast-put-pair-2 : tie.Need-cast-put-pair-2 Inv-loop μ-loop
 cast-put-pair-2 c =
     let lp : tie.At-loop Inv-loop μ-loop = c .before .before .before in
@@ -48,14 +39,12 @@ cast-put-pair-2 c =
     let u = joined-upto (stretchAt (st .args .acts .now)) (st .args .n) (lp .loop .j) (omega arith) in
     omega (arith, u, c .before .stretch-size .ensures)
 
--- src/bytes.rt:139:9
 put-pair-requires : tie.Need-put-pair-requires Inv-loop μ-loop
 put-pair-requires c κs =
     let lp : tie.At-loop Inv-loop μ-loop = c .before .before .before in
     let st = lp .before .before .before in
     omega (arith, lp .loop .inv .7 .count, all-pairs (st .args .from) (lp .loop .j) (st .args .acts .now))
 
--- src/bytes.rt:140:9
 add-offset : tie.Need-add-offset Inv-loop μ-loop
 add-offset c =
     let lp : tie.At-loop Inv-loop μ-loop = c .before .before .before .before .before .before in
@@ -63,15 +52,12 @@ add-offset c =
     let u = joined-upto (stretchAt (st .args .acts .now)) (st .args .n) (lp .loop .j) (omega arith) in
     omega (arith, u, c .before .before .before .before .stretch-size .ensures)
 
--- src/bytes.rt:141:9
 add-j : tie.Need-add-j Inv-loop μ-loop
 add-j c = search needs
 
--- src/bytes.rt:137:5
 loop-less : tie.Need-loop-less Inv-loop μ-loop
 loop-less c = search needs
 
--- src/bytes.rt:137:5
 loop-again : tie.Need-loop-again Inv-loop μ-loop
 loop-again c =
     let lp : tie.At-loop Inv-loop μ-loop = c .before .before .before .before .before .before in
@@ -82,11 +68,9 @@ loop-again c =
     let w = pairs-written (st .args .from) f (lp .loop .j) _ _ (lp .loop .inv .6) s (lp .loop .inv .7) (c .before .before .put-pair .ensures) in
     (omega arith, search needs, search needs, search needs, search needs, search needs, omega (arith, m, s), w)
 
--- src/bytes.rt:130:1
 same-length : tie.Need-same-length Inv-loop μ-loop
 same-length c = search needs
 
--- src/bytes.rt:130:1
 returns : tie.Need-returns Inv-loop μ-loop
 returns c =
     let lp : tie.At-loop Inv-loop μ-loop = c .before in

@@ -2,46 +2,32 @@
 -- Assumes nothing but the laws of proofs/.
 use Rattle.sheet_draft.proofs.Tagged.{bytes-length}
 use native.Mathlib.Omega.{arith}
-use mathlib.Core.Path.{_≡_, refl, ap, sym, _∙_}
-use Prim.Native.Nat.{ℕ, suc, _+_, _-_, _*_, _<_, _≤_}
-use lib.ListN.{length, getD, take, drop, set}
-use mathlib.Core.List.{List, [], _∷_, _++_}
+use mathlib.Core.Path.{sym}
 use borrow.Author.Needs.{needs}
 use Rattle.sheet_draft.proofs.bytes.put_some.Statement.{statement}
 use Rattle.sheet_draft.proofs.bytes.put_some.Tie as tie
-use Rattle.sheet_draft.proofs.bytes.put_some.Reads as reads
-use Rattle.sheet_draft.proofs.bytes.put_some.Lts as lts
-use Rattle.text.proofs.put_word.Reads as put-word-reads
 
--- src/bytes.rt:22:9
 cast-t8 : tie.Need-cast-t8
 cast-t8 c = search needs
 
--- src/bytes.rt:23:9
 cast-t11 : tie.Need-cast-t11
 cast-t11 c = search needs
 
--- src/bytes.rt:24:9
 cast-t13 : tie.Need-cast-t13
 cast-t13 c = search needs
 
--- src/bytes.rt:26:23
 array-share-prefix-three : tie.Need-array-share-prefix-three
 array-share-prefix-three c = search needs
 
--- src/bytes.rt:26:23
 slice-aggregate-put-word : tie.Need-slice-aggregate-put-word
 slice-aggregate-put-word c = let st = c .before .before .before in sym (bytes-length (st .args .w) (st .args .x) (st .pre .0))
 
--- src/bytes.rt:26:5
 put-word-requires : tie.Need-put-word-requires
 put-word-requires c κs = let st = c .before .before .before in omega (arith, bytes-length (st .args .w) (st .args .x) (st .pre .0))
 
--- src/bytes.rt:17:1
 same-length : tie.Need-same-length
 same-length c = search needs
 
--- src/bytes.rt:17:1
 returns : tie.Need-returns
 returns c = c .before .before .put-word .ensures
 

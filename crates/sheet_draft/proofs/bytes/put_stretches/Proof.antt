@@ -7,15 +7,11 @@ use Rattle.text.proofs.Writes.{Written, written-none, written-pair}
 use Rattle.text.specs.Joined.{joined}
 use borrow.Author.Needs.{needs}
 use native.Mathlib.Omega.{arith}
-use mathlib.Core.Path.{_≡_, refl, ap, sym, _∙_}
-use Prim.Native.Nat.{ℕ, suc, _+_, _-_, _*_, _<_, _≤_}
-use lib.ListN.{length, getD, take, drop, set}
-use mathlib.Core.List.{List, [], _∷_, _++_}
+use mathlib.Core.Path.{_≡_}
+use Prim.Native.Nat.{_+_, _-_, _≤_}
+use lib.ListN.{length}
 use Rattle.sheet_draft.proofs.bytes.put_stretches.Statement.{statement}
 use Rattle.sheet_draft.proofs.bytes.put_stretches.Tie as tie
-use Rattle.sheet_draft.proofs.bytes.put_stretches.Reads as reads
-use Rattle.sheet_draft.proofs.bytes.put_stretches.Lts as lts
-use Rattle.sheet_draft.proofs.bytes.put_stretch.Reads as put-stretch-reads
 
 abbrev Inv-loop : tie.InvT-loop
 Inv-loop buf₀ at acts n pos₀ j₀ buf pos j = (j ≤ n) × (n ≤ 257) × AllFit n acts × (at + length (joined (stretchesIn n acts)) ≤ length buf₀) × (length buf ≡ length buf₀) × Written buf₀ at (joined (stretchesIn j acts)) pos buf
@@ -23,11 +19,9 @@ Inv-loop buf₀ at acts n pos₀ j₀ buf pos j = (j ≤ n) × (n ≤ 257) × Al
 abbrev μ-loop : tie.MeasureT-loop
 μ-loop buf₀ at acts n pos₀ j₀ buf pos j = n - j
 
--- src/bytes.rt:88:5
 loop-holds : tie.Need-loop-holds Inv-loop μ-loop
 loop-holds c = (search needs, search needs, c .before .before .pre .1, search needs, search needs, written-none _ _)
 
--- src/bytes.rt:89:9
 put-stretch-requires : tie.Need-put-stretch-requires Inv-loop μ-loop
 put-stretch-requires c κs =
     let lp : tie.At-loop Inv-loop μ-loop = c .before .before in
@@ -35,15 +29,12 @@ put-stretch-requires c κs =
     let u = joined-upto (stretchAt (st .args .acts .now)) (st .args .n) (lp .loop .j) (omega arith) in
     (omega arith, lp .loop .inv .2 (lp .loop .j) (omega arith), omega (arith, u, lp .loop .inv .5 .count))
 
--- src/bytes.rt:90:9
 add-j : tie.Need-add-j Inv-loop μ-loop
 add-j c = search needs
 
--- src/bytes.rt:88:5
 loop-less : tie.Need-loop-less Inv-loop μ-loop
 loop-less c = search needs
 
--- src/bytes.rt:88:5
 loop-again : tie.Need-loop-again Inv-loop μ-loop
 loop-again c =
     let lp : tie.At-loop Inv-loop μ-loop = c .before .before .before .before .before in
@@ -51,11 +42,9 @@ loop-again c =
     let w = table-written (stretchAt (st .args .acts .now)) (lp .loop .j) (lp .loop .inv .5) (c .before .before .put-stretch .ensures) in
     (omega arith, search needs, lp .loop .inv .2, search needs, search needs, w)
 
--- src/bytes.rt:82:1
 same-length : tie.Need-same-length Inv-loop μ-loop
 same-length c = search needs
 
--- src/bytes.rt:82:1
 returns : tie.Need-returns Inv-loop μ-loop
 returns c =
     let lp : tie.At-loop Inv-loop μ-loop = c .before in

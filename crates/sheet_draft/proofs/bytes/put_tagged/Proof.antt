@@ -4,19 +4,14 @@ use Rattle.sheet_draft.proofs.Writing.{tagged-written}
 use lib.Seq.{take-all}
 use Rattle.sheet_draft.proofs.Tagged.{room-one}
 use Rattle.sheet_draft.specs.Bytes.{tagged}
-use Rattle.text.proofs.Writes.{Written, written-none, written-more, written-pair}
+use Rattle.text.proofs.Writes.{Written, written-none, written-pair}
 use borrow.Author.Needs.{needs}
 use native.Mathlib.Omega.{arith}
-use mathlib.Core.Path.{_≡_, refl, ap, sym, _∙_}
-use Prim.Native.Nat.{ℕ, suc, _+_, _-_, _*_, _<_, _≤_}
-use lib.ListN.{length, getD, take, drop, set}
-use mathlib.Core.List.{List, [], _∷_, _++_}
+use mathlib.Core.Path.{_≡_}
+use Prim.Native.Nat.{_+_, _-_, _≤_}
+use lib.ListN.{length, take}
 use Rattle.sheet_draft.proofs.bytes.put_tagged.Statement.{statement}
 use Rattle.sheet_draft.proofs.bytes.put_tagged.Tie as tie
-use Rattle.sheet_draft.proofs.bytes.put_tagged.Reads as reads
-use Rattle.sheet_draft.proofs.bytes.put_tagged.Lts as lts
-use Rattle.sheet_draft.proofs.bytes.put_some.Reads as put-some-reads
-use Rattle.sheet_draft.proofs.counts.width_of.Reads as width-of-reads
 
 abbrev Inv-loop : tie.InvT-loop
 Inv-loop buf₀ at acts tag w pos₀ i₀ buf pos i = (i ≤ length acts) × (w ≤ 3) × (at + length (tagged w tag acts) ≤ length buf₀) × (length buf ≡ length buf₀) × Written buf₀ at (tagged w tag (take i acts)) pos buf
@@ -24,23 +19,18 @@ Inv-loop buf₀ at acts tag w pos₀ i₀ buf pos i = (i ≤ length acts) × (w 
 abbrev μ-loop : tie.MeasureT-loop
 μ-loop buf₀ at acts tag w pos₀ i₀ buf pos i = length acts - i
 
--- src/bytes.rt:36:5
 loop-holds : tie.Need-loop-holds Inv-loop μ-loop
 loop-holds c = (search needs, search needs, search needs, search needs, written-none _ _)
 
--- src/bytes.rt:37:17
 mul-x : tie.Need-mul-x Inv-loop μ-loop
 mul-x c = search needs
 
--- src/bytes.rt:37:17
 shared-slice-read-x : tie.Need-shared-slice-read-x Inv-loop μ-loop
 shared-slice-read-x c = search needs
 
--- src/bytes.rt:38:13
 width-of-requires : tie.Need-width-of-requires Inv-loop μ-loop
 width-of-requires c κs = search needs
 
--- src/bytes.rt:39:9
 put-some-requires : tie.Need-put-some-requires Inv-loop μ-loop
 put-some-requires c κs =
     let lp : tie.At-loop Inv-loop μ-loop = c .before .before .before .before in
@@ -48,15 +38,12 @@ put-some-requires c κs =
     let (p, q) = room-one (st .args .w) (st .args .tag) (st .args .acts .now) (lp .loop .i) (c .before .width-of .result) (lp .loop .inv .1) (omega arith) (c .before .width-of .ensures) in
     (p, omega (arith, q, lp .loop .inv .4 .count))
 
--- src/bytes.rt:40:9
 add-i : tie.Need-add-i Inv-loop μ-loop
 add-i c = search needs
 
--- src/bytes.rt:36:5
 loop-less : tie.Need-loop-less Inv-loop μ-loop
 loop-less c = search needs
 
--- src/bytes.rt:36:5
 loop-again : tie.Need-loop-again Inv-loop μ-loop
 loop-again c =
     let lp : tie.At-loop Inv-loop μ-loop = c .before .before .before .before .before .before .before in
@@ -64,11 +51,9 @@ loop-again c =
     let w = tagged-written (st .args .w) (st .args .tag) (st .args .acts .now) (lp .loop .i) _ (omega arith) (c .before .before .before .before .width-of .ensures) (lp .loop .inv .4) (c .before .before .put-some .ensures) in
     (omega arith, search needs, search needs, search needs, w)
 
--- src/bytes.rt:30:1
 same-length : tie.Need-same-length Inv-loop μ-loop
 same-length c = search needs
 
--- src/bytes.rt:30:1
 returns : tie.Need-returns Inv-loop μ-loop
 returns c =
     let lp : tie.At-loop Inv-loop μ-loop = c .before in

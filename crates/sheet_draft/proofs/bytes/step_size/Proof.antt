@@ -2,58 +2,40 @@
 -- Assumes nothing but the laws of proofs/.
 use Rattle.sheet_draft.proofs.Writing.{step-length}
 use native.Mathlib.Omega.{arith}
-use mathlib.Core.Path.{_≡_, refl, ap, sym, _∙_}
-use Prim.Native.Nat.{ℕ, suc, _+_, _-_, _*_, _<_, _≤_}
-use lib.ListN.{length, getD, take, drop, set}
-use mathlib.Core.List.{List, [], _∷_, _++_}
 use borrow.Author.Needs.{needs}
 use Rattle.sheet_draft.proofs.bytes.step_size.Statement.{statement}
 use Rattle.sheet_draft.proofs.bytes.step_size.Tie as tie
-use Rattle.sheet_draft.proofs.bytes.step_size.Reads as reads
-use Rattle.sheet_draft.proofs.bytes.step_size.Lts as lts
-use Rattle.sheet_draft.proofs.bytes.tagged_size.Reads as tagged-size-reads
 
--- src/bytes.rt:108:13
 mul-t : tie.Need-mul-t
 mul-t c = search needs
 
--- src/bytes.rt:109:31
 add-tagged-size : tie.Need-add-tagged-size
 add-tagged-size c = search needs
 
--- src/bytes.rt:109:9
 tagged-size-requires : tie.Need-tagged-size-requires
 tagged-size-requires c κs = search needs
 
--- src/bytes.rt:110:31
 add-tagged-size-2 : tie.Need-add-tagged-size-2
 add-tagged-size-2 c = search needs
 
--- src/bytes.rt:110:9
 tagged-size-requires-2 : tie.Need-tagged-size-requires-2
 tagged-size-requires-2 c κs = search needs
 
--- src/bytes.rt:111:31
 add-tagged-size-3 : tie.Need-add-tagged-size-3
 add-tagged-size-3 c = search needs
 
--- src/bytes.rt:111:9
 tagged-size-requires-3 : tie.Need-tagged-size-requires-3
 tagged-size-requires-3 c κs = search needs
 
--- src/bytes.rt:112:5
 add-result : tie.Need-add-result
 add-result c = search needs
 
--- src/bytes.rt:112:5
 add-result-2 : tie.Need-add-result-2
 add-result-2 c = search needs
 
--- src/bytes.rt:112:5
 add-result-3 : tie.Need-add-result-3
 add-result-3 c = search needs
 
--- src/bytes.rt:104:1
 returns : tie.Need-returns
 returns c = let st = c .before .before .before .before in omega (arith, step-length (st .args .acts .now) (st .args .k), c .before .before .tagged-size .ensures .0, c .before .tagged-size2 .ensures .0, c .tagged-size3 .ensures .0)
 

@@ -3,22 +3,15 @@
 use Rattle.sheet_draft.proofs.Writing.{times-upto}
 use Rattle.sheet_draft.proofs.Tagged.{count-upto, tagged-length}
 use native.Mathlib.Omega.{arith}
-use mathlib.Core.Path.{_≡_, refl, ap, sym, _∙_}
-use Prim.Native.Nat.{ℕ, suc, _+_, _-_, _*_, _<_, _≤_}
-use lib.ListN.{length, getD, take, drop, set}
-use mathlib.Core.List.{List, [], _∷_, _++_}
+use mathlib.Core.Path.{ap, sym, _∙_}
+use Prim.Native.Nat.{ℕ, _*_}
 use borrow.Author.Needs.{needs}
 use Rattle.sheet_draft.proofs.bytes.tagged_size.Statement.{statement}
 use Rattle.sheet_draft.proofs.bytes.tagged_size.Tie as tie
-use Rattle.sheet_draft.proofs.bytes.tagged_size.Reads as reads
-use Rattle.sheet_draft.proofs.bytes.tagged_size.Lts as lts
-use Rattle.sheet_draft.proofs.counts.count_of.Reads as count-of-reads
 
--- src/bytes.rt:100:9
 count-of-requires : tie.Need-count-of-requires
 count-of-requires c κs = search needs
 
--- src/bytes.rt:100:5
 mul-result : tie.Need-mul-result
 mul-result c =
     let st = c .before .before in
@@ -26,7 +19,6 @@ mul-result c =
     let h = times-upto (st .args .w) (c .count-of .result) (st .pre .0) (omega (arith, c .count-of .ensures)) in
     omega arith
 
--- src/bytes.rt:96:1
 returns : tie.Need-returns
 returns c =
     let st = c .before .before in
