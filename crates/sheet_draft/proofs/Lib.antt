@@ -1,4 +1,4 @@
--- Laws of acts: the acts of one tag, their bytes, writing them.
+-- From acts to bytes; from a text's lines to acts; the acts say the net; what is made of a text, and of a sheet's own text.
 pub mod Tagged
 pub mod Writing
 pub mod Lines

@@ -1,8 +1,8 @@
 -- How many bytes a net has, and how many a line adds.
 -- Assumes nothing.
-use mathlib.Core.Path.{_≡_, refl, ap}
+use mathlib.Core.Path.{_≡_, refl}
 use mathlib.Core.Bool.{Bool, true, not}
-use Prim.Native.Nat.{ℕ, suc, _+_, _*_}
+use Prim.Native.Nat.{ℕ, _+_, _*_}
 use native.Mathlib.Omega.{arith}
 use mathlib.Core.List.{List, [], _∷_, _++_, map}
 use lib.ListN.{length, length-append, length-map}
@@ -15,6 +15,7 @@ use Rattle.lexing.proofs.Items.{never}
 use Rattle.sheet_text.specs.Reading.{none, onLast, arcs, admits, added}
 use Rattle.sheet_text.specs.declared.Line.{Line}
 use Rattle.sheet_text.specs.declared.Line.the-variants.{Blank, Places, Part, Coupled, Step, Move, Before, After, Wrong}
+use Rattle.sheet_text.proofs.Rest.{last-length}
 use Rattle.sheet_draft.specs.Notes.{noteOf}
 use Rattle.sheet_draft.proofs.Writing.{three-length, pairs-length}
 
@@ -63,11 +64,6 @@ last-size : (f : Arcs → Arcs) (n : ℕ) → ((t : Arcs) → arcsSize (f t) ≡
 last-size f n h [] e = never e
 last-size f n h (t ∷ []) e = omega (arith, h t)
 last-size f n h (t ∷ (u ∷ ts)) e = omega (arith, last-size f n h (u ∷ ts) refl)
-
-last-length : (f : Arcs → Arcs) (ts : List Arcs) → length (onLast f ts) ≡ length ts
-last-length f [] = refl
-last-length f (t ∷ []) = refl
-last-length f (t ∷ (u ∷ ts)) = ap suc (last-length f (u ∷ ts))
 
 steps-more : (ts : List Arcs) (t : Arcs) → stepsSize (ts ++ (t ∷ [])) ≡ stepsSize ts + arcsSize t
 steps-more [] t = omega arith

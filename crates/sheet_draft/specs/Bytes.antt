@@ -21,6 +21,7 @@ bytesAt w x = take w (firstOf x ∷ secondOf x ∷ thirdOf x ∷ [])
 abbrev pub tagged : ℕ → ℕ → List ℕ → List ℕ
 tagged w t acts = joined (map (bytesAt w) (ofTag t acts))
 
+-- how many acts are of one tag
 abbrev pub countOf : ℕ → List ℕ → ℕ
 countOf t acts = length (ofTag t acts)
 
@@ -28,20 +29,21 @@ countOf t acts = length (ofTag t acts)
 abbrev pub counted : ℕ → ℕ → List ℕ → List ℕ
 counted w t acts = countOf t acts ∷ tagged w t acts
 
--- a step: entries, in-couplings, out-couplings
+-- 01, the sheet: the record of a step: entries, in-couplings, out-couplings, each after its count
 unfoldable pub stepBytes : List ℕ → ℕ → List ℕ
 stepBytes acts k = counted 3 (moveTag k) acts ++ counted 2 (beforeTag k) acts ++ counted 2 (afterTag k) acts
 
--- each count of a step is of one byte
+-- 01, the sheet: each count of a step is of one byte
 abbrev pub stepFits : List ℕ → ℕ → Bool
 stepFits acts k = leb (countOf (moveTag k) acts) 255 && (leb (countOf (beforeTag k) acts) 255 && leb (countOf (afterTag k) acts) 255)
 
--- stretch 0: the start places; 1: the start couplings; from 2 on the steps
+-- 01, the sheet: what the pairs name: the start places, the start couplings, and each step
 abbrev pub stretchAt : List ℕ → ℕ → List ℕ
 stretchAt acts zero = tagged 1 partTag acts
 stretchAt acts (suc zero) = tagged 2 coupledTag acts
 stretchAt acts (suc (suc k)) = stepBytes acts k
 
+-- the first n of them
 abbrev pub stretchesIn : ℕ → List ℕ → List (List ℕ)
 stretchesIn n acts = table n (stretchAt acts)
 
@@ -51,14 +53,15 @@ stretchFits acts zero = true
 stretchFits acts (suc zero) = true
 stretchFits acts (suc (suc k)) = stepFits acts k
 
+-- so of the first n stretches
 abbrev pub AllFit : ℕ → List ℕ → Type 0
 AllFit n acts = (j : ℕ) → j < n → stretchFits acts j ≡ true
 
--- the counts of parts, of steps, and in each step are of one byte
+-- 01, the sheet: the counts of parts, of steps, and in each step are of one byte
 unfoldable pub countsFit : ℕ → List ℕ → Bool
 countsFit steps acts = leb (countOf partTag acts) 255 && (leb steps 255 && all (stepFits acts) (table steps (λ k. k)))
 
--- header, pairs, stretches: the first stretch begins behind the pairs
+-- 01, the sheet: header, pairs, stretches; the first stretch begins behind the pairs
 unfoldable pub sheetIn : ℕ → ℕ → List ℕ → List ℕ
 sheetIn places steps acts =
     (1 ∷ places ∷ countOf partTag acts ∷ steps ∷ [])

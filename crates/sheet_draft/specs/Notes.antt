@@ -26,7 +26,8 @@ abbrev pub anAct : ℕ → ℕ → ℕ → ℕ → ℕ → ℕ → ℕ → Note
 anAct tag p q r size places steps = record { act = actOf tag p q r; acts = 1; size = size; places = places; steps = steps }
 
 -- A line behind so many places and steps: its act, how many bytes it adds to the sheet (01, the sheet: a start place one,
--- a coupling two, an entry three, a step its pair and its three counts), and the places and steps behind it.
+-- a coupling two, an entry three, a step its pair and its three counts), and the places and steps behind it. Behind so many
+-- steps the last is step number one less, so that its tags are three times so many and the next two.
 abbrev pub noteOf : Line → ℕ → ℕ → Note
 noteOf Blank places steps = noAct 0 places steps
 noteOf (Places n) places steps = noAct 0 n steps
@@ -66,7 +67,7 @@ linesIn s = map lineOf (map (row maxItems) (linesOf s))
 unfoldable pub notesOf : List ℕ → Notes
 notesOf s = foldl noted blankNotes (linesIn s)
 
--- offsets are of two bytes
+-- 01, the sheet: offsets are of two bytes
 abbrev pub mostBytes : ℕ
 mostBytes = 65535
 

@@ -44,8 +44,7 @@ fn both(a: bool, b: bool) -> bool
     a && b
 }
 
-// Each count of a step is of one byte. The caller's steps are fewer than a sheet's bytes, as for the functions
-// below.
+// Each count of a step is of one byte. The caller's steps are fewer than a sheet's bytes, as below.
 fn step_fits(acts: &[u64], k: usize) -> bool
     requires { ⌜ k ≤ 65535 ⌝ }
     ensures { λ r. ⌜ r ≡ stepFits (now (acts .entry)) k ⌝ }
@@ -71,7 +70,7 @@ fn steps_fit(acts: &[u64], steps: usize) -> bool
     fine
 }
 
-// The counts of parts, of steps, and in each step are of one byte.
+// The counts of parts, of steps, and in each step are of one byte. The caller has counted the parts.
 pub fn counts_fit(acts: &[u64], parts: usize, steps: usize) -> bool
     requires { ⌜ (parts ≡ countOf 0 (now acts)) × (steps ≤ 65535) ⌝ }
     ensures { λ r. ⌜ r ≡ countsFit steps (now (acts .entry)) ⌝ }

@@ -40,7 +40,7 @@ admits-by told net (Before p q) = ap not (none-length (net .transitions))
 admits-by told net (After p q) = ap not (none-length (net .transitions))
 admits-by told net Wrong = refl
 
-last-length : (f : Arcs → Arcs) (ts : List Arcs) → length (onLast f ts) ≡ length ts
+pub last-length : (f : Arcs → Arcs) (ts : List Arcs) → length (onLast f ts) ≡ length ts
 last-length f [] = refl
 last-length f (t ∷ []) = refl
 last-length f (t ∷ (u ∷ ts)) = ap suc (last-length f (u ∷ ts))
