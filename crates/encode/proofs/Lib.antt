@@ -2,4 +2,3 @@
 pub mod Covers
 pub mod Pieces
 pub mod Whole
-pub mod Picked

@@ -1,0 +1,62 @@
+-- `sheet_draft::counts::step_fits` meets its contract.
+-- Assumes nothing but the laws of proofs/.
+use borrow.Author.Needs.{needs}
+use Rattle.sheet_draft.proofs.counts.step_fits.Statement.{statement}
+use Rattle.sheet_draft.proofs.counts.step_fits.Tie as tie
+
+mul-t : tie.Need-mul-t
+mul-t c = search needs
+
+add-count-of : tie.Need-add-count-of
+add-count-of c = search needs
+
+count-of-requires : tie.Need-count-of-requires
+count-of-requires c κs = search needs
+
+is-byte-requires : tie.Need-is-byte-requires
+is-byte-requires c κs = search needs
+
+add-count-of-2 : tie.Need-add-count-of-2
+add-count-of-2 c = search needs
+
+count-of-requires-2 : tie.Need-count-of-requires-2
+count-of-requires-2 c κs = search needs
+
+is-byte-requires-2 : tie.Need-is-byte-requires-2
+is-byte-requires-2 c κs = search needs
+
+add-count-of-3 : tie.Need-add-count-of-3
+add-count-of-3 c = search needs
+
+count-of-requires-3 : tie.Need-count-of-requires-3
+count-of-requires-3 c κs = search needs
+
+is-byte-requires-3 : tie.Need-is-byte-requires-3
+is-byte-requires-3 c κs = search needs
+
+both-requires : tie.Need-both-requires
+both-requires c κs = search needs
+
+both-requires-2 : tie.Need-both-requires-2
+both-requires-2 c κs = search needs
+
+returns : tie.Need-returns
+returns c = cc
+
+pub step-fits-spec : {M : Type 1} → statement M
+step-fits-spec =
+    tie.close
+    (tie.spec
+    mul-t
+    add-count-of
+    count-of-requires
+    is-byte-requires
+    add-count-of-2
+    count-of-requires-2
+    is-byte-requires-2
+    add-count-of-3
+    count-of-requires-3
+    is-byte-requires-3
+    both-requires
+    both-requires-2
+    returns)
