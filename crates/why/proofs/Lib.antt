@@ -3,3 +3,4 @@ pub mod Numbers
 pub mod Items
 pub mod Latest
 pub mod Answers
+pub mod Claims
