@@ -8,17 +8,22 @@ use native.Mathlib.Omega.{arith}
 use borrow.Author.Tests.{ne-eqb, lt-ltb}
 use Rattle.net.specs.Checks.{clear, first}
 use Rattle.net.specs.Net.{Net}
-use Rattle.net.specs.Journal.{Journal, checks}
+use Rattle.net.specs.Journal.{Journal, begin, play, checks}
+use Rattle.net.proofs.Journal.{Held, played}
 use Rattle.format.specs.NetOf.{netOf}
 use Rattle.sheet.specs.Checks.{sheetChecks}
-use Rattle.session.specs.Records.{heldIn, soundFor, Sound}
-use Rattle.session.specs.Commands.{commandChecks}
+use Rattle.sheet.proofs.Accepted.{promised}
+use Rattle.tally.specs.declared.Tally.{Tally}
+use Rattle.session.specs.Records.{heldIn, recordOf, soundFor, Sound}
+use Rattle.session.specs.Commands.{commandChecks, freshOf}
+use Rattle.session.specs.Runs.{runOf}
 use Rattle.session.specs.declared.Record.{Record}
+use Rattle.session.proofs.Steps.{held-back, held-soundFor, follows-fresh}
 use Rattle.why.specs.Why.{reasonFor, whyOf}
 use Rattle.why.specs.Turned.{Turned}
 use Rattle.why.specs.declared.Reason.{Reason}
 use Rattle.why.specs.declared.Reason.the-variants as Reason
-use Rattle.why.proofs.Numbers.{sheet-low, act-refused, first-sheet, first-record}
+use Rattle.why.proofs.Numbers.{sheet-low, act-refused, first-sheet, first-record, first-own}
 
 sheet-reason : (net : Net) (j : Journal) (c : List ℕ) (n : ℕ) → (n ≡ 0 → ⊥) → n < 10 → Reason.Sheet ≡ reasonFor net j c n
 unfolding reasonFor
@@ -43,3 +48,21 @@ module _ (s : List ℕ) (r : Record) (c : List ℕ) where
 
   pub why-record : clear (sheetChecks s) ≡ true → soundFor s r ≡ false → Reason.Record ≡ whyOf s r c
   why-record a h = why-by 10 (sym (first-record s r c a h)) Reason.Record (record-reason (netOf s) (heldIn s r) c)
+
+-- ---- the record of a journal
+
+module _ (s : List ℕ) (accepted : clear (sheetChecks s) ≡ true) where
+  -- by the journal alone
+  pub why-journal : (j : Journal) → Held (netOf s) j → (c : List ℕ) → whyOf s (recordOf j) c ≡ reasonFor (netOf s) j c (first (checks (netOf s) j c))
+  why-journal j H c =
+      let P = promised s accepted in
+      sym (why-by s (recordOf j) c _ (sym (first-own s (recordOf j) c accepted (held-soundFor s accepted (P .rule) (P .bases .1) j H))) _ refl)
+      ∙ ap (λ (h : Journal). reasonFor (netOf s) h c (first (checks (netOf s) h c))) (held-back s accepted (P .rule) (P .bases .1) j H)
+
+  -- after commands on a fresh record
+  pub why-session : (cs : List (List ℕ)) (t : Tally) (c : List ℕ) → whyOf s (runOf s cs (freshOf s) t .session) c
+      ≡ (let j = play (netOf s) cs (begin (netOf s)) in reasonFor (netOf s) j c (first (checks (netOf s) j c)))
+  why-session cs t c =
+      let P = promised s accepted in
+      ap (λ (r : Record). whyOf s r c) (follows-fresh s accepted (P .rule) (P .bases .1) cs t .session)
+      ∙ why-journal (play (netOf s) cs (begin (netOf s))) (played (netOf s) (P .rule) cs) c

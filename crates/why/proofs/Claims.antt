@@ -1,19 +1,18 @@
 -- What a reason names holds the condition of its number: specs/Claims, of any sheet, record and command.
 -- Assumes nothing.
-use mathlib.Core.Path.{_≡_, refl, sym, _∙_, ap, subst}
-use mathlib.Core.Bool.{Bool, true, false, not, _&&_}
+use mathlib.Core.Path.{_≡_, refl, sym, _∙_, ap}
+use mathlib.Core.Bool.{Bool, true, false, not}
 use mathlib.Core.List.{List}
-use Prim.Native.Nat.{ℕ, suc, _<_, _≤_}
+use Prim.Native.Nat.{ℕ, _<_}
 use native.Mathlib.Omega.{arith}
 use lib.Dec.{eqb}
-use lib.ListN.{length, getD}
-use borrow.Author.Tests.{eq-eqb, not-true}
-use Rattle.causal.specs.Lists.{Mem}
+use lib.ListN.{getD}
+use borrow.Author.Tests.{eq-eqb}
 use Rattle.causal.proofs.Tests.{both, test}
 use Rattle.net.specs.Checks.{clear, first}
 use Rattle.net.specs.Net.{Arcs, Marking, bond, hasBond, place}
 use Rattle.net.specs.Connection.{connected}
-use Rattle.net.specs.Journal.{LiveLine, lineOf, lineKeys, noLine, refused, keyNamed, checks, act}
+use Rattle.net.specs.Journal.{LiveLine, noLine, refused, keyNamed, act}
 use Rattle.net.specs.declared.Bond.{Bond}
 use Rattle.net.specs.declared.Entry.{Entry}
 use Rattle.net.specs.declared.Key.{Key}
@@ -21,16 +20,13 @@ use Rattle.net.proofs.Tests.{and-l, and-r}
 use Rattle.format.specs.NetOf.{netOf}
 use Rattle.sheet.specs.Checks.{sheetChecks}
 use Rattle.sheet.proofs.Order.{clear-first}
-use Rattle.firings.specs.Search.{indexOf}
 use Rattle.firings.proofs.Laid.{mem-at}
 use Rattle.session.specs.Records.{heldIn, soundFor}
-use Rattle.session.specs.Commands.{answerNumber, commandChecks, outcomeFor}
+use Rattle.session.specs.Commands.{answerNumber, commandChecks}
 use Rattle.session.specs.declared.Record.{Record}
 use Rattle.session.proofs.Answering.{sheet-positive}
 use Rattle.session.proofs.Answers.{answer-number}
 use Rattle.session.proofs.Places.{place-found}
-use Rattle.reasons.specs.First.{firstAt}
-use Rattle.reasons.specs.Reasons.{awayFrom, absentFrom, presentIn, tornFrom, hasPartner}
 use Rattle.reasons.proofs.Named.{away-holds, absent-holds, present-holds, torn-holds}
 use Rattle.why.specs.Why.{noEntry, awayEntry, absentBond, presentBond, tornEntry, partnerOf, laterPlace, laterPart, awayBy, absentBy, presentBy, tornBy, laterBy, reasonFor, whyOf}
 use Rattle.why.specs.Claims.{IsAway, IsAbsent, IsPresent, IsTorn, CameAfter, stepOf, RefusedBy, Named}

@@ -1,18 +1,18 @@
 -- What 13 to 16 name: the item that the code reads in the step's bytes is the definition's.
 -- Assumes a sound record on an accepted sheet, and that the command is refused by the number.
-use mathlib.Core.Path.{_≡_, refl, sym, _∙_, ap, subst}
+use mathlib.Core.Path.{_≡_, sym, _∙_, ap, subst}
 use mathlib.Core.Bool.{false}
 use mathlib.Core.List.{List, []}
 use Prim.Native.Nat.{ℕ, _<_, _≤_}
 use native.Mathlib.Omega.{arith}
 use lib.Dec.{ltb}
-use lib.ListN.{length, getD, take}
+use lib.ListN.{length, getD}
 use lib.Seq.{getD-take}
 use borrow.Author.Tests.{ltb-true}
 use Rattle.causal.specs.Lists.{Mem}
 use Rattle.causal.proofs.Tests.{test}
 use Rattle.net.specs.Limits.{maxBases, maxBonds}
-use Rattle.net.specs.Tests.{pick, table}
+use Rattle.net.specs.Tests.{table}
 use Rattle.net.specs.Sorted.{Ascending}
 use Rattle.net.specs.Net.{Arcs, Marking, bond, sameBond, lessBond, arcsOf}
 use Rattle.net.specs.Journal.{transitionNamed}
@@ -21,11 +21,10 @@ use Rattle.net.specs.declared.Entry.{Entry}
 use Rattle.net.specs.declared.Transition.{Transition}
 use Rattle.net.proofs.Tables.{length-table, getD-table}
 use Rattle.net.proofs.Rules.{fits}
-use Rattle.format.specs.Parts.{basesOf, transitionsOf, partOf, transitionBytes}
+use Rattle.format.specs.Parts.{basesOf, transitionsOf, transitionBytes}
 use Rattle.format.specs.Arcs.{entryCount, nthEntry, inCount, nthInBond, outCount, nthOutBond, arcsIn}
 use Rattle.format.specs.NetOf.{netOf}
 use Rattle.bonds.proofs.Fill.{mem-table}
-use Rattle.labels.specs.Labelled.{Parted}
 use Rattle.marking.specs.Form.{bondsOf}
 use Rattle.firings.proofs.Laid.{mem-at}
 use Rattle.sound.proofs.Lines.{placed-room}

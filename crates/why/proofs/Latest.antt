@@ -1,7 +1,7 @@
 -- What 20 names: the firing and the part that the code finds in the arrays are the definition's.
 -- Assumes an accepted sheet and a sound record.
 use mathlib.Core.Path.{_≡_, sym, _∙_, ap}
-use mathlib.Core.Bool.{Bool, true}
+use mathlib.Core.Bool.{true}
 use mathlib.Core.List.{List}
 use Prim.Native.Nat.{ℕ, _<_, _≤_}
 use native.Mathlib.Omega.{arith}
@@ -22,7 +22,7 @@ use Rattle.format.specs.NetOf.{netOf}
 use Rattle.sheet.specs.Checks.{sheetChecks}
 use Rattle.sheet.proofs.Accepted.{promised}
 use Rattle.words.specs.Sets.{setOf}
-use Rattle.firings.specs.Lines.{firingAt, asLine, firingsOf}
+use Rattle.firings.specs.Lines.{firingAt, asLine}
 use Rattle.firings.specs.Search.{keysIn, indexOf}
 use Rattle.firings.specs.declared.Firing.{Firing}
 use Rattle.firings.specs.declared.Firings.{Firings}
@@ -32,7 +32,6 @@ use Rattle.session.specs.Records.{heldIn, soundFor, Sound}
 use Rattle.session.specs.declared.Record.{Record}
 use Rattle.session.proofs.Sounds.{firings-are}
 use Rattle.session.proofs.Fits.{run-flags}
-use Rattle.reasons.specs.First.{firstAt}
 use Rattle.reasons.specs.Reasons.{inBoth, laterAt, commonAt}
 use Rattle.reasons.proofs.Firsts.{first-most}
 use Rattle.reasons.proofs.Built.{CameLater, built-holds}

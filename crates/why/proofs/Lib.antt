@@ -4,3 +4,4 @@ pub mod Items
 pub mod Latest
 pub mod Answers
 pub mod Claims
+pub mod Samples

@@ -1,7 +1,7 @@
 -- The numbers of a command's checks: below 10 for a sheet, 10 for a record, 11 to 21 for the command itself.
 -- Assumes nothing.
 use mathlib.Core.Path.{_≡_, refl, sym, _∙_, ap}
-use mathlib.Core.Bool.{Bool, true, false, not, _&&_}
+use mathlib.Core.Bool.{Bool, true, false, not}
 use mathlib.Core.List.{List, [], _∷_}
 use Prim.Native.Nat.{ℕ, zero, suc, _+_, _<_, _≤_}
 use native.Mathlib.Omega.{arith}
@@ -46,6 +46,16 @@ sheet-low s n e h = ltb-true n 10 (ap (λ (k : ℕ). ltb k 10) e ∙ first-passe
 
 -- ---- a command's own
 
+-- what is left of 11 to 21 where it is none of 11 to 20
+above : (k n : ℕ) → k ≤ n → (n ≡ k → ⊥) → suc k ≤ n
+above k n h x = omega arith
+
+level : (k n : ℕ) → k ≤ n → n ≤ k → k ≡ n
+level k n a b = omega arith
+
+only-21 : (n : ℕ) → 11 ≤ n → n ≤ 21 → (n ≡ 11 → ⊥) → (n ≡ 12 → ⊥) → (n ≡ 13 → ⊥) → (n ≡ 14 → ⊥) → (n ≡ 15 → ⊥) → (n ≡ 16 → ⊥) → (n ≡ 17 → ⊥) → (n ≡ 18 → ⊥) → (n ≡ 19 → ⊥) → (n ≡ 20 → ⊥) → 21 ≡ n
+only-21 n a b x11 x12 x13 x14 x15 x16 x17 x18 x19 x20 = level 21 n (above 20 n (above 19 n (above 18 n (above 17 n (above 16 n (above 15 n (above 14 n (above 13 n (above 12 n (above 11 n a x11) x12) x13) x14) x15) x16) x17) x18) x19) x20) b
+
 module _ (net : Net) (j : Journal) (c : List ℕ) where
   -- by the kind
   every : (p : ℕ → Bool) → all (λ (d : Check). p (d .number)) (fireChecks net j (transitionNamed c)) ≡ true → all (λ (d : Check). p (d .number)) (undoChecks j (keyNamed j c)) ≡ true
@@ -56,11 +66,15 @@ module _ (net : Net) (j : Journal) (c : List ℕ) where
       go true = f
       go false = u
 
-  pub own-least : (n : ℕ) → n ≡ first (checks net j c) → (n ≡ 0 → ⊥) → 11 ≤ n
+  own-least : (n : ℕ) → n ≡ first (checks net j c) → (n ≡ 0 → ⊥) → 11 ≤ n
   own-least n e h = leb-true 11 n (ap (λ (k : ℕ). leb 11 k) e ∙ first-passes (λ k. leb 11 k) (checks net j c) (every (λ k. leb 11 k) refl refl refl refl) (λ z. h (e ∙ z)))
 
-  pub own-most : (n : ℕ) → n ≡ first (checks net j c) → (n ≡ 0 → ⊥) → n ≤ 21
+  own-most : (n : ℕ) → n ≡ first (checks net j c) → (n ≡ 0 → ⊥) → n ≤ 21
   own-most n e h = leb-true n 21 (ap (λ (k : ℕ). leb k 21) e ∙ first-passes (λ k. leb k 21) (checks net j c) (every (λ k. leb k 21) refl refl refl refl) (λ z. h (e ∙ z)))
+
+  -- none of 0 and 11 to 20: it is 21
+  pub own-last : (n : ℕ) → n ≡ first (checks net j c) → (n ≡ 0 → ⊥) → (n ≡ 11 → ⊥) → (n ≡ 12 → ⊥) → (n ≡ 13 → ⊥) → (n ≡ 14 → ⊥) → (n ≡ 15 → ⊥) → (n ≡ 16 → ⊥) → (n ≡ 17 → ⊥) → (n ≡ 18 → ⊥) → (n ≡ 19 → ⊥) → (n ≡ 20 → ⊥) → 21 ≡ n
+  own-last n e h = only-21 n (own-least n e h) (own-most n e h)
 
   -- the journal's answer is the refusal of that number
   pub act-refused : (n : ℕ) → n ≡ first (checks net j c) → (n ≡ 0 → ⊥) → act net j c .answer ≡ refused n
@@ -68,16 +82,6 @@ module _ (net : Net) (j : Journal) (c : List ℕ) where
       let q : clear (checks net j c) ≡ false = clear-first (checks net j c) (every (λ k. ltb 0 k) refl refl refl refl) ∙ ap (λ (k : ℕ). eqb k 0) (sym e) ∙ ne-eqb n 0 h in
       ap (λ (b : Bool). pick b (pick (eqb (kindOf c) 1) (fireReply net j (transitionNamed c)) (undoReply net j (keyNamed j c))) (refuse j (first (checks net j c))) .answer) q
       ∙ ap refused (sym e)
-
--- what is left of 11 to 21 where it is none of 11 to 20
-above : (k n : ℕ) → k ≤ n → (n ≡ k → ⊥) → suc k ≤ n
-above k n h x = omega arith
-
-level : (k n : ℕ) → k ≤ n → n ≤ k → k ≡ n
-level k n a b = omega arith
-
-pub only-21 : (n : ℕ) → 11 ≤ n → n ≤ 21 → (n ≡ 11 → ⊥) → (n ≡ 12 → ⊥) → (n ≡ 13 → ⊥) → (n ≡ 14 → ⊥) → (n ≡ 15 → ⊥) → (n ≡ 16 → ⊥) → (n ≡ 17 → ⊥) → (n ≡ 18 → ⊥) → (n ≡ 19 → ⊥) → (n ≡ 20 → ⊥) → 21 ≡ n
-only-21 n a b x11 x12 x13 x14 x15 x16 x17 x18 x19 x20 = level 21 n (above 20 n (above 19 n (above 18 n (above 17 n (above 16 n (above 15 n (above 14 n (above 13 n (above 12 n (above 11 n a x11) x12) x13) x14) x15) x16) x17) x18) x19) x20) b
 
 -- ---- all of a command's
 

@@ -24,6 +24,7 @@ use Rattle.why.specs.declared.Reason.the-variants as Reason
 
 -- ---- What a reason names. No command that is refused by the number names what is past the end of a list (Claims).
 
+-- what is past the end of the entries
 abbrev pub noEntry : Entry
 noEntry = record { base = 0; from = 0; to = 0 }
 
@@ -57,7 +58,7 @@ laterPlace ls k = laterAt (length ls) (firingsOf ls .moved) (indexOf k (lineKeys
 abbrev pub laterPart : List LiveLine → Key → ℕ
 laterPart ls k = commonAt (setAt ls (indexOf k (lineKeys ls))) (setAt ls (laterPlace ls k))
 
--- ---- The reasons that name something
+-- ---- The reasons that name something: 13 with the place where the part is, 14, 15, 16 with the partner
 
 abbrev pub awayBy : Arcs → Marking → Reason
 awayBy t s = Reason.Away (awayEntry t s) (place s (awayEntry t s .base))
@@ -75,11 +76,13 @@ tornBy t s = Reason.Torn (tornEntry t s) (partnerOf t s (tornEntry t s))
 abbrev pub notLiveBy : List ℕ → Reason
 notLiveBy c = pick (eqb (kindOf c) 2) Reason.NoneLive (Reason.NotLive (key (numberOf c)))
 
+-- 20: the key of that firing, and that part
 abbrev pub laterBy : List LiveLine → Key → Reason
 laterBy ls k = Reason.Later (getD ls (laterPlace ls k) noLine .key) (laterPart ls k)
 
 -- ---- By the number
 
+-- The reason of a number, of a command on a journal. What is left is 21.
 unfoldable pub reasonFor : Net → Journal → List ℕ → ℕ → Reason
 reasonFor net j c n =
     let t = arcsOf net (transitionNamed c) in

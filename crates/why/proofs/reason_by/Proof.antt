@@ -1,16 +1,22 @@
 -- `why::reason_by` meets its contract.
 -- Assumes nothing but the laws of proofs/.
 use borrow.Author.Needs.{needs}
-use mathlib.Core.Path.{_≡_, ap, sym, _∙_}
+use mathlib.Core.Path.{ap, sym, _∙_}
+use Prim.Native.Nat.{ℕ}
 use Rattle.format.specs.NetOf.{netOf}
 use Rattle.steps.proofs.Arcs.{count-of}
 use Rattle.session.specs.Records.{heldIn}
 use Rattle.why.specs.Why.{reasonFor}
+use Rattle.why.specs.declared.Reason.{Reason}
 use Rattle.why.proofs.Answers.{turned}
-use Rattle.why.proofs.Numbers.{own-least, own-most, only-21}
+use Rattle.why.proofs.Numbers.{own-last}
 use Rattle.why.specs.declared.Reason.the-variants as Reason
 use Rattle.why.proofs.reason_by.Statement.{statement}
 use Rattle.why.proofs.reason_by.Tie as tie
+
+-- the reason of a number
+abbrev by : tie.Start → ℕ → Reason
+by s = reasonFor (netOf (s .args .sheet .now)) (heldIn (s .args .sheet .now) (s .args .r)) (s .args .bytes .now)
 
 transition-count-requires : tie.Need-transition-count-requires
 transition-count-requires c κs = search needs
@@ -45,79 +51,55 @@ why-later-requires c κs =
 
 returns : tie.Need-returns
 unfolding reasonFor
-returns c =
-    let s : tie.Start = c .before .before .before in
-    ap (reasonFor (netOf (s .args .sheet .now)) (heldIn (s .args .sheet .now) (s .args .r)) (s .args .bytes .now)) (sym (c .match .keys1))
+returns c = ap (by (c .before .before .before)) (sym (c .match .keys1))
 
 returns-2 : tie.Need-returns-2
 unfolding reasonFor
-returns-2 c =
-    let s : tie.Start = c .before .before .before in
-    ap (reasonFor (netOf (s .args .sheet .now)) (heldIn (s .args .sheet .now) (s .args .r)) (s .args .bytes .now)) (sym (c .match .keys2))
+returns-2 c = ap (by (c .before .before .before)) (sym (c .match .keys2))
 
 returns-3 : tie.Need-returns-3
 unfolding reasonFor
-returns-3 c =
-    let s : tie.Start = c .before .before .before .before in
-    ap Reason.Steps (c .transition-count .ensures ∙ sym (count-of (s .args .sheet .now))) ∙ ap (reasonFor (netOf (s .args .sheet .now)) (heldIn (s .args .sheet .now) (s .args .r)) (s .args .bytes .now)) (sym (c .before .match .keys3))
+returns-3 c = ap Reason.Steps (c .transition-count .ensures ∙ sym (count-of (c .before .before .before .before .args .sheet .now))) ∙ ap (by (c .before .before .before .before)) (sym (c .before .match .keys3))
 
 returns-4 : tie.Need-returns-4
 unfolding reasonFor
-returns-4 c =
-    let s : tie.Start = c .before .before .before .before in
-    c .why-away .ensures ∙ ap (reasonFor (netOf (s .args .sheet .now)) (heldIn (s .args .sheet .now) (s .args .r)) (s .args .bytes .now)) (sym (c .before .match .keys4))
+returns-4 c = c .why-away .ensures ∙ ap (by (c .before .before .before .before)) (sym (c .before .match .keys4))
 
 returns-5 : tie.Need-returns-5
 unfolding reasonFor
-returns-5 c =
-    let s : tie.Start = c .before .before .before .before in
-    c .why-absent .ensures ∙ ap (reasonFor (netOf (s .args .sheet .now)) (heldIn (s .args .sheet .now) (s .args .r)) (s .args .bytes .now)) (sym (c .before .match .keys5))
+returns-5 c = c .why-absent .ensures ∙ ap (by (c .before .before .before .before)) (sym (c .before .match .keys5))
 
 returns-6 : tie.Need-returns-6
 unfolding reasonFor
-returns-6 c =
-    let s : tie.Start = c .before .before .before .before in
-    c .why-present .ensures ∙ ap (reasonFor (netOf (s .args .sheet .now)) (heldIn (s .args .sheet .now) (s .args .r)) (s .args .bytes .now)) (sym (c .before .match .keys6))
+returns-6 c = c .why-present .ensures ∙ ap (by (c .before .before .before .before)) (sym (c .before .match .keys6))
 
 returns-7 : tie.Need-returns-7
 unfolding reasonFor
-returns-7 c =
-    let s : tie.Start = c .before .before .before .before in
-    c .why-torn .ensures ∙ ap (reasonFor (netOf (s .args .sheet .now)) (heldIn (s .args .sheet .now) (s .args .r)) (s .args .bytes .now)) (sym (c .before .match .keys7))
+returns-7 c = c .why-torn .ensures ∙ ap (by (c .before .before .before .before)) (sym (c .before .match .keys7))
 
 returns-8 : tie.Need-returns-8
 unfolding reasonFor
-returns-8 c =
-    let s : tie.Start = c .before .before .before in
-    ap (reasonFor (netOf (s .args .sheet .now)) (heldIn (s .args .sheet .now) (s .args .r)) (s .args .bytes .now)) (sym (c .match .keys8))
+returns-8 c = ap (by (c .before .before .before)) (sym (c .match .keys8))
 
 returns-9 : tie.Need-returns-9
 unfolding reasonFor
-returns-9 c =
-    let s : tie.Start = c .before .before .before in
-    ap (reasonFor (netOf (s .args .sheet .now)) (heldIn (s .args .sheet .now) (s .args .r)) (s .args .bytes .now)) (sym (c .match .keys9))
+returns-9 c = ap (by (c .before .before .before)) (sym (c .match .keys9))
 
 returns-10 : tie.Need-returns-10
 unfolding reasonFor
-returns-10 c =
-    let s : tie.Start = c .before .before .before .before in
-    c .why-not-live .ensures ∙ ap (reasonFor (netOf (s .args .sheet .now)) (heldIn (s .args .sheet .now) (s .args .r)) (s .args .bytes .now)) (sym (c .before .match .keys10))
+returns-10 c = c .why-not-live .ensures ∙ ap (by (c .before .before .before .before)) (sym (c .before .match .keys10))
 
 returns-11 : tie.Need-returns-11
 unfolding reasonFor
-returns-11 c =
-    let s : tie.Start = c .before .before .before .before in
-    c .why-later .ensures ∙ ap (reasonFor (netOf (s .args .sheet .now)) (heldIn (s .args .sheet .now) (s .args .r)) (s .args .bytes .now)) (sym (c .before .match .keys11))
+returns-11 c = c .why-later .ensures ∙ ap (by (c .before .before .before .before)) (sym (c .before .match .keys11))
 
 returns-12 : tie.Need-returns-12
 unfolding reasonFor
 returns-12 c =
     let s : tie.Start = c .before .before .before in
-    let left = c .match .rest in
-    let h : s .args .n ≡ 0 → ⊥ = left .0 .0 .0 .0 .0 .0 .0 .0 .0 .0 .1 in
-    let a = own-least (netOf (s .args .sheet .now)) (heldIn (s .args .sheet .now) (s .args .r)) (s .args .bytes .now) (s .args .n) (s .pre .1) h in
-    let b = own-most (netOf (s .args .sheet .now)) (heldIn (s .args .sheet .now) (s .args .r)) (s .args .bytes .now) (s .args .n) (s .pre .1) h in
-    ap (reasonFor (netOf (s .args .sheet .now)) (heldIn (s .args .sheet .now) (s .args .r)) (s .args .bytes .now)) (only-21 (s .args .n) a b (left .0 .0 .0 .0 .0 .0 .0 .0 .0 .1) (left .0 .0 .0 .0 .0 .0 .0 .0 .1) (left .0 .0 .0 .0 .0 .0 .0 .1) (left .0 .0 .0 .0 .0 .0 .1) (left .0 .0 .0 .0 .0 .1) (left .0 .0 .0 .0 .1) (left .0 .0 .0 .1) (left .0 .0 .1) (left .0 .1) (left .1))
+    let n = c .match .rest in
+    ap (by s) (own-last (netOf (s .args .sheet .now)) (heldIn (s .args .sheet .now) (s .args .r)) (s .args .bytes .now) (s .args .n) (s .pre .1)
+    (n .0 .0 .0 .0 .0 .0 .0 .0 .0 .0 .1) (n .0 .0 .0 .0 .0 .0 .0 .0 .0 .1) (n .0 .0 .0 .0 .0 .0 .0 .0 .1) (n .0 .0 .0 .0 .0 .0 .0 .1) (n .0 .0 .0 .0 .0 .0 .1) (n .0 .0 .0 .0 .0 .1) (n .0 .0 .0 .0 .1) (n .0 .0 .0 .1) (n .0 .0 .1) (n .0 .1) (n .1))
 
 pub reason-by-spec : {M : Type 1} → statement M
 reason-by-spec =

@@ -5,6 +5,10 @@ use Rattle.why.proofs.Items.{bonds-ready, present-is}
 use Rattle.why.proofs.why_present.Statement.{statement}
 use Rattle.why.proofs.why_present.Tie as tie
 
+-- the function's start
+abbrev start : tie.After-step-named → tie.Start
+start a = a .before .before .before
+
 step-named-requires : tie.Need-step-named-requires
 step-named-requires c κs = search needs
 
@@ -18,8 +22,9 @@ out-bond-requires c κs = search needs
 
 returns : tie.Need-returns
 returns c =
-    let s : tie.Start = c .before .before .before .before .before .before .before .before .before .before in
-    present-is (s .args .sheet .now) (s .args .r) (s .args .bytes .now) (s .pre .sound) (c .before .before .before .before .before .before .before .step-named .result .now) (c .before .before .before .before .before .before .before .step-named .ensures) (s .pre) (c .before .first-present .result) (c .before .first-present .ensures) (c .out-bond .result) (c .out-bond .ensures)
+    let a : tie.After-step-named = c .before .before .before .before .before .before .before in
+    let s : tie.Start = start a in
+    present-is (s .args .sheet .now) (s .args .r) (s .args .bytes .now) (s .pre .sound) (a .step-named .result .now) (a .step-named .ensures) (s .pre) (c .before .first-present .result) (c .before .first-present .ensures) (c .out-bond .result) (c .out-bond .ensures)
 
 pub why-present-spec : {M : Type 1} → statement M
 why-present-spec =

@@ -8,6 +8,10 @@ use Rattle.why.proofs.Items.{entries-low, torn-low, pair-is}
 use Rattle.why.proofs.why_torn.Statement.{statement}
 use Rattle.why.proofs.why_torn.Tie as tie
 
+-- the function's start
+abbrev start : tie.After-step-named → tie.Start
+start a = a .before .before .before
+
 step-named-requires : tie.Need-step-named-requires
 step-named-requires c κs = search needs
 
@@ -26,24 +30,32 @@ label-in-requires c κs =
 
 first-torn-requires : tie.Need-first-torn-requires
 first-torn-requires c κs =
-    let s : tie.Start = c .before .before .before .before .before .before .before .before .before .before .before .before in
-    entries-low (s .args .sheet .now) (s .args .r) (s .args .bytes .now) (s .pre .sound) (c .before .before .before .before .before .before .before .before .before .step-named .result .now) (c .before .before .before .before .before .before .before .before .before .step-named .ensures)
+    let a : tie.After-step-named = c .before .before .before .before .before .before .before .before .before in
+    let s : tie.Start = start a in
+    entries-low (s .args .sheet .now) (s .args .r) (s .args .bytes .now) (s .pre .sound) (a .step-named .result .now) (a .step-named .ensures)
 
 entry-requires : tie.Need-entry-requires
 entry-requires c κs = search needs
 
 first-partner-requires : tie.Need-first-partner-requires
 first-partner-requires c κs =
-    let s : tie.Start = c .before .before .before .before .before .before .before .before .before .before .before .before .before .before .before in
-    (torn-low (s .args .sheet .now) (s .args .r) (s .args .bytes .now) (s .pre .sound) (c .before .before .before .before .before .before .before .before .before .before .before .before .step-named .result .now) (c .before .before .before .before .before .before .before .before .before .before .before .before .step-named .ensures) (s .pre) (c .before .before .first-torn .result) (c .before .before .first-torn .ensures (heldIn (s .args .sheet .now) (s .args .r) .marking) (c .before .before .before .before .label-in .ensures .parted)) (c .before .entry .result) (c .before .entry .ensures), entries-low (s .args .sheet .now) (s .args .r) (s .args .bytes .now) (s .pre .sound) (c .before .before .before .before .before .before .before .before .before .before .before .before .step-named .result .now) (c .before .before .before .before .before .before .before .before .before .before .before .before .step-named .ensures))
+    let a : tie.After-step-named = c .before .before .before .before .before .before .before .before .before .before .before .before in
+    let s : tie.Start = start a in
+    let m = heldIn (s .args .sheet .now) (s .args .r) .marking in
+    let parted = c .before .before .before .before .label-in .ensures .parted in
+    (torn-low (s .args .sheet .now) (s .args .r) (s .args .bytes .now) (s .pre .sound) (a .step-named .result .now) (a .step-named .ensures) (s .pre) (c .before .before .first-torn .result) (c .before .before .first-torn .ensures m parted) (c .before .entry .result) (c .before .entry .ensures), entries-low (s .args .sheet .now) (s .args .r) (s .args .bytes .now) (s .pre .sound) (a .step-named .result .now) (a .step-named .ensures))
 
 entry-requires-2 : tie.Need-entry-requires-2
 entry-requires-2 c κs = search needs
 
 returns : tie.Need-returns
 returns c =
-    let s : tie.Start = c .before .before .before .before .before .before .before .before .before .before .before .before .before .before .before .before .before in
-    pair-is (s .args .sheet .now) (s .args .r) (s .args .bytes .now) (s .pre .sound) (c .before .before .before .before .before .before .before .before .before .before .before .before .before .before .step-named .result .now) (c .before .before .before .before .before .before .before .before .before .before .before .before .before .before .step-named .ensures) (s .pre) (c .before .before .before .before .first-torn .result) (c .before .before .before .before .first-torn .ensures (heldIn (s .args .sheet .now) (s .args .r) .marking) (c .before .before .before .before .before .before .label-in .ensures .parted)) (c .before .before .before .entry .result) (c .before .before .before .entry .ensures) (c .before .first-partner .result) (c .before .first-partner .ensures (heldIn (s .args .sheet .now) (s .args .r) .marking) (c .before .before .before .before .before .before .label-in .ensures .parted)) (c .entry2 .result) (c .entry2 .ensures)
+    let a : tie.After-step-named = c .before .before .before .before .before .before .before .before .before .before .before .before .before .before in
+    let s : tie.Start = start a in
+    let m = heldIn (s .args .sheet .now) (s .args .r) .marking in
+    let parted = c .before .before .before .before .before .before .label-in .ensures .parted in
+    pair-is (s .args .sheet .now) (s .args .r) (s .args .bytes .now) (s .pre .sound) (a .step-named .result .now) (a .step-named .ensures) (s .pre) (c .before .before .before .before .first-torn .result) (c .before .before .before .before .first-torn .ensures m parted) (c .before .before .before .entry .result) (c .before .before .before .entry .ensures)
+    (c .before .first-partner .result) (c .before .first-partner .ensures m parted) (c .entry2 .result) (c .entry2 .ensures)
 
 pub why-torn-spec : {M : Type 1} → statement M
 why-torn-spec =
