@@ -23,16 +23,18 @@ use format::word_at;
 
 // ---- from a script
 
-// Where a script's first sheet stands, and its first session's lines: before it, in it, in its session, behind it.
-enum Stage {
-    Before,
-    Sheet,
-    Session,
-    Behind,
-}
+// Where a script's first sheet stands, and its first session's lines. A line is before the sheet, in it, in its session, or
+// behind that.
+const BEFORE: u8 = 0;
+
+const SHEET: u8 = 1;
+
+const SESSION: u8 = 2;
+
+const BEHIND: u8 = 3;
 
 struct Place {
-    stage: Stage,
+    stage: u8,
     line: usize,
     from: usize,
     to: usize,
@@ -42,7 +44,7 @@ struct Place {
 
 fn nowhere() -> Place {
     Place {
-        stage: Stage::Before,
+        stage: BEFORE,
         line: 0,
         from: 0,
         to: 0,
@@ -51,119 +53,56 @@ fn nowhere() -> Place {
     }
 }
 
-fn is_sheet(form: Form) -> bool {
+// What a line begins: a sheet, a session, or nothing.
+fn begun_by(form: Form) -> u8 {
     match form {
-        Form::Sheet => true,
-        Form::Session => false,
-        Form::Blank => false,
-        Form::Expect => false,
-        Form::Command(o) => false,
-        Form::Asks(q) => false,
-        Form::Other => false,
+        Form::Sheet => SHEET,
+        Form::Session => SESSION,
+        _ => BEFORE,
     }
 }
 
-fn is_session(form: Form) -> bool {
-    match form {
-        Form::Sheet => false,
-        Form::Session => true,
-        Form::Blank => false,
-        Form::Expect => false,
-        Form::Command(o) => false,
-        Form::Asks(q) => false,
-        Form::Other => false,
+// Behind a line that ends at a position, of a stage that it stays in.
+fn stretched(p: Place, to: usize) -> Place {
+    let mut x = p;
+    if p.stage == SHEET {
+        x.to = to;
+        x.begin = to;
     }
+    if p.stage <= SESSION {
+        x.end = to;
+    }
+    x
 }
 
-// The stages after a line, which begins and ends at two positions.
-fn passed(p: Place, form: Form, k: usize, at: usize, to: usize) -> Place {
-    let sheet = is_sheet(form);
-    let session = is_session(form);
-    let stage = p.stage;
-    match stage {
-        Stage::Before => if sheet { in_sheet(p, k, to) } else { p },
-        Stage::Sheet => if session {
-            in_session(p, at, to)
-        } else {
-            widened(p, sheet, to)
-        },
-        Stage::Session => if session | sheet {
-            over(p)
-        } else {
-            lengthened(p, to)
-        },
-        Stage::Behind => p,
+// Behind line k, which begins and ends at two positions. A second sheet ends the first, and a second session too.
+fn passed(p: Place, begun: u8, k: usize, at: usize, to: usize) -> Place {
+    if begun == BEFORE {
+        return stretched(p, to);
     }
-}
-
-fn in_sheet(p: Place, k: usize, to: usize) -> Place {
-    Place {
-        stage: Stage::Sheet,
-        line: k,
-        from: one_more(to),
-        to: to,
-        begin: to,
-        end: to,
+    let mut x = p;
+    if p.stage == BEFORE {
+        if begun == SHEET {
+            x.stage = SHEET;
+            x.line = k;
+            x.from = one_more(to);
+            x.to = to;
+            x.begin = to;
+            x.end = to;
+        }
+        return x;
     }
-}
-
-// A second sheet before any session ends the first.
-fn widened(p: Place, over: bool, to: usize) -> Place {
-    if over {
-        return over_sheet(p);
+    if p.stage == SHEET {
+        if begun == SESSION {
+            x.stage = SESSION;
+            x.to = at;
+            x.begin = to;
+            x.end = to;
+            return x;
+        }
     }
-    Place {
-        stage: Stage::Sheet,
-        line: p.line,
-        from: p.from,
-        to: to,
-        begin: to,
-        end: to,
-    }
-}
-
-fn over_sheet(p: Place) -> Place {
-    Place {
-        stage: Stage::Behind,
-        line: p.line,
-        from: p.from,
-        to: p.to,
-        begin: p.to,
-        end: p.to,
-    }
-}
-
-fn in_session(p: Place, at: usize, to: usize) -> Place {
-    Place {
-        stage: Stage::Session,
-        line: p.line,
-        from: p.from,
-        to: at,
-        begin: to,
-        end: to,
-    }
-}
-
-fn lengthened(p: Place, to: usize) -> Place {
-    Place {
-        stage: Stage::Session,
-        line: p.line,
-        from: p.from,
-        to: p.to,
-        begin: p.begin,
-        end: to,
-    }
-}
-
-fn over(p: Place) -> Place {
-    Place {
-        stage: Stage::Behind,
-        line: p.line,
-        from: p.from,
-        to: p.to,
-        begin: p.begin,
-        end: p.end,
-    }
+    x.stage = BEHIND;
+    x
 }
 
 fn place_of(text: &[u8]) -> Place {
@@ -173,7 +112,7 @@ fn place_of(text: &[u8]) -> Place {
     while at < text.len() {
         let to = line_end(text, at);
         let form = form_of(between(text, at, to));
-        p = passed(p, form, k, at, to);
+        p = passed(p, begun_by(form), k, at, to);
         if text.len() <= to {
             return p;
         }
@@ -196,12 +135,7 @@ fn put_order(line: &[u8], out: &mut [u8], n: usize) -> usize {
                 n
             }
         }
-        Form::Sheet => n,
-        Form::Session => n,
-        Form::Blank => n,
-        Form::Expect => n,
-        Form::Asks(q) => n,
-        Form::Other => n,
+        _ => n,
     }
 }
 

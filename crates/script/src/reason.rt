@@ -1,64 +1,77 @@
 // Why a command was refused, in words (document 01, the turned-away list, 10 to 21). What a reason names was found by the
-// crate why.
-use crate::put::put_count;
-use crate::put::put_coupling;
-use crate::put::put_text;
+// crate why; `#` stands for its numbers, in their order.
+use crate::put::Numbers;
+use crate::put::four;
+use crate::put::one;
+use crate::put::put_phrase;
+use crate::put::two;
 use net::Bond;
 use net::Entry;
-use net::Key;
 use why::Reason;
 
-fn put_away(buf: &mut [u8], e: Entry, place: u8) -> usize {
-    let a = put_count(buf, 0, b"part", e.base as usize);
-    let b = put_count(buf, a, b" is at", place as usize);
-    put_count(buf, b, b" and the step takes it from", e.from as usize)
+fn ends(b: Bond) -> Numbers {
+    two(b.lo as usize, b.hi as usize)
 }
 
-fn put_bond(buf: &mut [u8], b: Bond, words: &[u8]) -> usize {
-    let a = put_text(buf, 0, b"coupling");
-    let c = put_coupling(buf, a, b.lo, b.hi);
-    put_text(buf, c, words)
+fn away(e: Entry, place: u8) -> Numbers {
+    four(e.base as usize, place as usize, e.from as usize, 0)
 }
 
-fn put_torn(buf: &mut [u8], e: Entry, d: Entry) -> usize {
-    let a = put_count(buf, 0, b"parts", e.base as usize);
-    let b = put_count(buf, a, b" and", d.base as usize);
-    let c = put_count(buf, b, b" hang together and would go to", e.to as usize);
-    put_count(buf, c, b" and", d.to as usize)
+fn torn(e: Entry, d: Entry) -> Numbers {
+    four(
+        e.base as usize,
+        d.base as usize,
+        e.to as usize,
+        d.to as usize,
+    )
 }
 
-fn put_later(buf: &mut [u8], k: Key, base: u8) -> usize {
-    let a = put_count(buf, 0, b"firing", k.0 as usize);
-    let b = put_count(buf, a, b" came later and moved part", base as usize);
-    put_text(buf, b, b" too")
-}
-
-fn put_steps(buf: &mut [u8], n: u8) -> usize {
-    let a = put_count(buf, 0, b"the sheet has", n as usize);
-    put_text(buf, a, b" steps from 0")
-}
-
-fn put_gone(buf: &mut [u8], k: Key) -> usize {
-    let a = put_count(buf, 0, b"firing", k.0 as usize);
-    put_text(buf, a, b" is not live")
+// The reasons that name a part, a coupling or a firing.
+fn put_named(buf: &mut [u8], r: Reason) -> usize {
+    match r {
+        Reason::Away(e, place) => {
+            put_phrase(
+                buf,
+                b"part # is at # and the step takes it from #",
+                away(e, place),
+            )
+        }
+        Reason::Absent(b) => put_phrase(buf, b"coupling #-# is not there", ends(b)),
+        Reason::Present(b) => put_phrase(buf, b"coupling #-# is there already", ends(b)),
+        Reason::Torn(e, d) => {
+            put_phrase(
+                buf,
+                b"parts # and # hang together and would go to # and #",
+                torn(e, d),
+            )
+        }
+        Reason::NotLive(k) => put_phrase(buf, b"firing # is not live", one(k.0 as usize)),
+        Reason::Later(k, base) => {
+            put_phrase(
+                buf,
+                b"firing # came later and moved part # too",
+                two(k.0 as usize, base as usize),
+            )
+        }
+        _ => put_phrase(buf, b"the last command was not refused", one(0)),
+    }
 }
 
 pub fn put_reason(buf: &mut [u8], r: Reason) -> usize {
     match r {
-        Reason::Nothing => put_text(buf, 0, b"the last command was not refused"),
-        Reason::Sheet => put_text(buf, 0, b"the sheet is refused"),
-        Reason::Record => put_text(buf, 0, b"the record is not sound for this sheet"),
-        Reason::Short => put_text(buf, 0, b"the command has fewer than 3 bytes"),
-        Reason::Unreadable => put_text(buf, 0, b"the kind is not 1 2 or 3 or kind 2 has a number"),
-        Reason::Steps(n) => put_steps(buf, n),
-        Reason::Away(e, place) => put_away(buf, e, place),
-        Reason::Absent(b) => put_bond(buf, b, b" is not there"),
-        Reason::Present(b) => put_bond(buf, b, b" is there already"),
-        Reason::Torn(e, d) => put_torn(buf, e, d),
-        Reason::Full => put_text(buf, 0, b"256 firings are live"),
-        Reason::LastKey => put_text(buf, 0, b"the highest live serial is 65535"),
-        Reason::NoneLive => put_text(buf, 0, b"no firing is live"),
-        Reason::NotLive(k) => put_gone(buf, k),
-        Reason::Later(k, base) => put_later(buf, k, base),
+        Reason::Record => put_phrase(buf, b"the record is not sound for this sheet", one(0)),
+        Reason::Short => put_phrase(buf, b"the command has fewer than 3 bytes", one(0)),
+        Reason::Unreadable => {
+            put_phrase(
+                buf,
+                b"the kind is not 1 2 or 3 or kind 2 has a number",
+                one(0),
+            )
+        }
+        Reason::Steps(n) => put_phrase(buf, b"the sheet has # steps from 0", one(n as usize)),
+        Reason::Full => put_phrase(buf, b"256 firings are live", one(0)),
+        Reason::LastKey => put_phrase(buf, b"the highest live serial is 65535", one(0)),
+        Reason::NoneLive => put_phrase(buf, b"no firing is live", one(0)),
+        _ => put_named(buf, r),
     }
 }

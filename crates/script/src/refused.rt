@@ -1,8 +1,10 @@
 // Why a sheet was refused, in words (document 01, the turned-away list, 1 to 9): the number's condition, and the pair, part,
 // coupling or step that it is about. Only what is printed: that a sheet is refused, and by which number, is the crate sheet's.
-use crate::put::put_count;
-use crate::put::put_coupling;
-use crate::put::put_text;
+use crate::put::Numbers;
+use crate::put::four;
+use crate::put::one;
+use crate::put::put_phrase;
+use crate::put::two;
 use format::arcs_width;
 use format::base_count;
 use format::byte_at;
@@ -22,23 +24,6 @@ use net::Bond;
 use net::Entry;
 use net::Transition;
 use sheet::transition_refusal;
-
-fn put_size(buf: &mut [u8], sheet: &[u8]) -> usize {
-    let a = put_count(buf, 0, b"the sheet has", sheet.len());
-    put_text(buf, a, b" bytes and is to have 4 to 32768")
-}
-
-fn put_version(buf: &mut [u8], sheet: &[u8]) -> usize {
-    let a = put_count(buf, 0, b"the version is", version(sheet) as usize);
-    put_text(buf, a, b" and is to be 1")
-}
-
-fn put_counts(buf: &mut [u8], sheet: &[u8]) -> usize {
-    let a = put_count(buf, 0, b"places", place_count(sheet) as usize);
-    let b = put_count(buf, a, b" parts", base_count(sheet) as usize);
-    let c = put_count(buf, b, b" steps", transition_count(sheet) as usize);
-    put_text(buf, c, b" and each is to be 1 to 64")
-}
 
 // The first pair whose offset is not where the one before ends; how many pairs there are where none is.
 struct Seam {
@@ -73,17 +58,22 @@ fn put_pairs(buf: &mut [u8], sheet: &[u8]) -> usize {
     let n = transition_count(sheet) as u16 + 2;
     let begin = 4 + 4 * (n as usize);
     if sheet.len() < begin {
-        let a = put_count(buf, 0, b"the pairs end at byte", begin);
-        return put_count(buf, a, b" and the sheet at", sheet.len());
+        return put_phrase(
+            buf,
+            b"the pairs end at byte # and the sheet at #",
+            two(begin, sheet.len()),
+        );
     }
     let s = first_seam(sheet, n, begin);
+    let numbers = four(s.pair as usize, s.is, s.to_be, 0);
     if s.pair < n {
-        let a = put_count(buf, 0, b"pair", s.pair as usize);
-        let b = put_count(buf, a, b" has offset", s.is);
-        return put_count(buf, b, b" and is to have", s.to_be);
+        return put_phrase(buf, b"pair # has offset # and is to have #", numbers);
     }
-    let a = put_count(buf, 0, b"the last pair ends at byte", s.to_be);
-    put_count(buf, a, b" and the sheet at", s.is)
+    put_phrase(
+        buf,
+        b"the last of # pairs does not end at byte # but at #",
+        numbers,
+    )
 }
 
 // The first part whose start place is not there; how many there are where none is.
@@ -102,14 +92,19 @@ fn put_start_places(buf: &mut [u8], sheet: &[u8]) -> usize {
     let places = start_places(sheet);
     let parts = base_count(sheet) as usize;
     if places.len() != parts {
-        let a = put_count(buf, 0, b"the start places are", places.len());
-        return put_count(buf, a, b" and the parts", parts);
+        return put_phrase(
+            buf,
+            b"the start places are # and the parts #",
+            two(places.len(), parts),
+        );
     }
     let n = place_count(sheet);
     let p = first_misplaced(places, n);
-    let a = put_count(buf, 0, b"part", p);
-    let b = put_count(buf, a, b" starts at", byte_at(places, p) as usize);
-    put_count(buf, b, b" and the places are", n as usize)
+    put_phrase(
+        buf,
+        b"part # starts at # and the places are #",
+        four(p, byte_at(places, p) as usize, n as usize, 0),
+    )
 }
 
 fn in_order(b: Bond, c: Bond) -> bool {
@@ -155,19 +150,20 @@ fn first_misfit(sheet: &[u8], n: u16) -> u16 {
 fn put_start_couplings(buf: &mut [u8], sheet: &[u8]) -> usize {
     let bytes = start_bonds(sheet);
     if bytes.len() % 2 != 0 {
-        return put_count(
+        return put_phrase(
             buf,
-            0,
-            b"the start couplings have an odd length",
-            bytes.len(),
+            b"the start couplings have # bytes and that is odd",
+            one(bytes.len()),
         );
     }
     let n = start_bond_count(sheet);
     let i = first_misfit(sheet, n);
     let b = start_bond(sheet, i);
-    let a = put_count(buf, 0, b"start coupling", i as usize);
-    let c = put_coupling(buf, a, b.lo, b.hi);
-    put_text(buf, c, b" breaks its rule")
+    put_phrase(
+        buf,
+        b"start coupling # #-# breaks its rule",
+        four(i as usize, b.lo as usize, b.hi as usize, 0),
+    )
 }
 
 // ---- a step
@@ -184,14 +180,20 @@ fn first_refused(sheet: &[u8], n: u8) -> u8 {
     n
 }
 
-fn put_width(buf: &mut [u8], at: usize, b: &[u8]) -> usize {
+fn put_width(buf: &mut [u8], k: usize, b: &[u8]) -> usize {
     let width = arcs_width(b);
     if b.len() != width {
-        let a = put_count(buf, at, b" has", b.len());
-        return put_count(buf, a, b" bytes and its counts give", width);
+        return put_phrase(
+            buf,
+            b"step # has # bytes and its counts give #",
+            four(k, b.len(), width, 0),
+        );
     }
-    let a = put_count(buf, at, b" has", entry_count(b) as usize);
-    put_text(buf, a, b" entries and is to have 1 to 64")
+    put_phrase(
+        buf,
+        b"step # has # entries and is to have 1 to 64",
+        two(k, entry_count(b) as usize),
+    )
 }
 
 // An entry names what is there, and its part is above the one before.
@@ -223,51 +225,66 @@ fn first_stray(b: &[u8], n: u8, places: u8, parts: u8) -> u8 {
     n
 }
 
-fn put_entry(buf: &mut [u8], at: usize, b: &[u8], places: u8, parts: u8) -> usize {
+fn put_entry(buf: &mut [u8], k: usize, b: &[u8], places: u8, parts: u8) -> usize {
     let i = first_stray(b, entry_count(b), places, parts);
     let e = entry(b, i);
-    let a = put_count(buf, at, b" moves part", e.base as usize);
-    let c = put_count(buf, a, b" from", e.from as usize);
-    let d = put_count(buf, c, b" to", e.to as usize);
-    put_text(
+    put_phrase(
         buf,
-        d,
-        b" and one of them is not there or the parts do not ascend",
+        b"step # moves part # from # to # and one of them is not there or the parts do not ascend",
+        four(k, e.base as usize, e.from as usize, e.to as usize),
     )
 }
 
 fn put_step(buf: &mut [u8], sheet: &[u8], number: u8) -> usize {
     let k = first_refused(sheet, transition_count(sheet));
     let b = transition_bytes(sheet, Transition(k as u16));
-    let a = put_count(buf, 0, b"step", k as usize);
     if number == 7 {
-        return put_width(buf, a, b);
+        return put_width(buf, k as usize, b);
     }
     if number == 8 {
-        return put_entry(buf, a, b, place_count(sheet), base_count(sheet));
+        return put_entry(buf, k as usize, b, place_count(sheet), base_count(sheet));
     }
-    put_text(buf, a, b" has a coupling that breaks its rule")
+    put_phrase(
+        buf,
+        b"step # has a coupling that breaks its rule",
+        one(k as usize),
+    )
 }
 
 // Why a sheet is refused by a number.
 pub fn put_refused(buf: &mut [u8], sheet: &[u8], number: u8) -> usize {
-    if number == 1 {
-        return put_size(buf, sheet);
+    match number {
+        1 => {
+            put_phrase(
+                buf,
+                b"the sheet has # bytes and is to have 4 to 32768",
+                one(sheet.len()),
+            )
+        }
+        2 => {
+            put_phrase(
+                buf,
+                b"the version is # and is to be 1",
+                one(version(sheet) as usize),
+            )
+        }
+        3 => put_phrase(
+            buf,
+            b"places # parts # steps # and each is to be 1 to 64",
+            counts(sheet),
+        ),
+        4 => put_pairs(buf, sheet),
+        5 => put_start_places(buf, sheet),
+        6 => put_start_couplings(buf, sheet),
+        _ => put_step(buf, sheet, number),
     }
-    if number == 2 {
-        return put_version(buf, sheet);
-    }
-    if number == 3 {
-        return put_counts(buf, sheet);
-    }
-    if number == 4 {
-        return put_pairs(buf, sheet);
-    }
-    if number == 5 {
-        return put_start_places(buf, sheet);
-    }
-    if number == 6 {
-        return put_start_couplings(buf, sheet);
-    }
-    put_step(buf, sheet, number)
+}
+
+fn counts(sheet: &[u8]) -> Numbers {
+    four(
+        place_count(sheet) as usize,
+        base_count(sheet) as usize,
+        transition_count(sheet) as usize,
+        0,
+    )
 }

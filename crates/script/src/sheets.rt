@@ -107,16 +107,10 @@ fn tells(line: &[u8]) -> Hint {
         Form::Command(o) => {
             match o {
                 Order::Bytes => Hint::Hex,
-                Order::Fire(t) => Hint::Words,
-                Order::UndoLast => Hint::Words,
-                Order::Undo(k) => Hint::Words,
+                _ => Hint::Words,
             }
         }
-        Form::Sheet => Hint::Words,
-        Form::Session => Hint::Words,
-        Form::Expect => Hint::Words,
-        Form::Asks(q) => Hint::Words,
-        Form::Other => Hint::Words,
+        _ => Hint::Words,
     }
 }
 

@@ -10,6 +10,7 @@ use Rattle.desk.proofs.take_all.Statement.{statement}
 use Rattle.desk.proofs.take_all.Tie as tie
 use Rattle.desk.proofs.take_all.Reads as reads
 use Rattle.desk.proofs.take_all.Lts as lts
+use Rattle.desk.proofs.take_next.Reads as take-next-reads
 
 abbrev Inv-loop : tie.InvT-loop
 Inv-loop count i₀ i = Unit {0}
@@ -20,11 +21,8 @@ abbrev μ-loop : tie.MeasureT-loop
 loop-holds : tie.Need-loop-holds Inv-loop μ-loop
 loop-holds c = tt
 
-take-named-requires : tie.Need-take-named-requires Inv-loop μ-loop
-take-named-requires c κs = search needs
-
-add-i : tie.Need-add-i Inv-loop μ-loop
-add-i c = search needs
+take-next-requires : tie.Need-take-next-requires Inv-loop μ-loop
+take-next-requires c κs = search needs
 
 loop-less : tie.Need-loop-less Inv-loop μ-loop
 loop-less c = search needs
@@ -37,5 +35,4 @@ returns c = tt
 
 pub take-all-spec : {M : Type 1} → statement M
 take-all-spec =
-    tie.close
-    (tie.spec Inv-loop μ-loop loop-holds take-named-requires add-i loop-less loop-again returns)
+    tie.close (tie.spec Inv-loop μ-loop loop-holds take-next-requires loop-less loop-again returns)

@@ -10,6 +10,7 @@ use Rattle.script.proofs.exam.place_of.Statement.{statement}
 use Rattle.script.proofs.exam.place_of.Tie as tie
 use Rattle.script.proofs.exam.place_of.Reads as reads
 use Rattle.script.proofs.exam.place_of.Lts as lts
+use Rattle.script.proofs.exam.begun_by.Reads as begun-by-reads
 use Rattle.script.proofs.exam.nowhere.Reads as nowhere-reads
 use Rattle.script.proofs.exam.passed.Reads as passed-reads
 use Rattle.script.proofs.form.form_of.Reads as form-of-reads
@@ -37,6 +38,9 @@ between-requires c κs = search needs
 
 form-of-requires : tie.Need-form-of-requires Inv-loop μ-loop
 form-of-requires c κs = search needs
+
+begun-by-requires : tie.Need-begun-by-requires Inv-loop μ-loop
+begun-by-requires c κs = search needs
 
 passed-requires : tie.Need-passed-requires Inv-loop μ-loop
 passed-requires c κs = search needs
@@ -70,6 +74,7 @@ place-of-spec =
     line-end-requires
     between-requires
     form-of-requires
+    begun-by-requires
     passed-requires
     returns
     add-at

@@ -1,0 +1,63 @@
+-- `script::put::put_phrase` is safe and ends.
+-- Assumes nothing.
+use borrow.Author.Needs.{needs}
+use native.Mathlib.Omega.{arith}
+use mathlib.Core.Path.{_≡_, refl, ap, sym, _∙_}
+use Prim.Native.Nat.{ℕ, suc, _+_, _-_, _*_, _<_, _≤_}
+use lib.ListN.{length, getD, take, drop, set}
+use mathlib.Core.List.{List, [], _∷_, _++_}
+use Rattle.script.proofs.put.put_phrase.Statement.{statement}
+use Rattle.script.proofs.put.put_phrase.Tie as tie
+use Rattle.script.proofs.put.put_phrase.Reads as reads
+use Rattle.script.proofs.put.put_phrase.Lts as lts
+use Rattle.script.proofs.put.passed.Reads as passed-reads
+use Rattle.script.proofs.put.put_letter.Reads as put-letter-reads
+
+abbrev Inv-loop : tie.InvT-loop
+Inv-loop buf₀ words n pos₀ k₀ i₀ buf pos k i = length buf ≡ length buf₀
+
+abbrev μ-loop : tie.MeasureT-loop
+μ-loop buf₀ words n pos₀ k₀ i₀ buf pos k i = length words - i
+
+loop-holds : tie.Need-loop-holds Inv-loop μ-loop
+loop-holds c = search needs
+
+shared-slice-read-c : tie.Need-shared-slice-read-c Inv-loop μ-loop
+shared-slice-read-c c = search needs
+
+put-letter-requires : tie.Need-put-letter-requires Inv-loop μ-loop
+put-letter-requires c κs = search needs
+
+passed-requires : tie.Need-passed-requires Inv-loop μ-loop
+passed-requires c κs = search needs
+
+add-i : tie.Need-add-i Inv-loop μ-loop
+add-i c = search needs
+
+loop-less : tie.Need-loop-less Inv-loop μ-loop
+loop-less c = search needs
+
+loop-again : tie.Need-loop-again Inv-loop μ-loop
+loop-again c = search needs
+
+same-length : tie.Need-same-length Inv-loop μ-loop
+same-length c = search needs
+
+returns : tie.Need-returns Inv-loop μ-loop
+returns c = search needs
+
+pub put-phrase-spec : {M : Type 1} → statement M
+put-phrase-spec =
+    tie.close
+    (tie.spec
+    Inv-loop
+    μ-loop
+    loop-holds
+    shared-slice-read-c
+    put-letter-requires
+    passed-requires
+    add-i
+    loop-less
+    loop-again
+    same-length
+    returns)
