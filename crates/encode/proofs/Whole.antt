@@ -48,10 +48,10 @@ length-parts s k (suc n) = ap suc (length-parts s (k + 1) n)
 follow-here : (s : List ℕ) (at k n : ℕ) → follow s at k (suc n) ≡ true → offsetOf s k ≡ at
 follow-here s at k n h = eqb-true (offsetOf s k) at (and-l (eqb (offsetOf s k) at) (follow s (at + lengthOf s k) (k + 1) n) h)
 
-follow-next : (s : List ℕ) (at k n : ℕ) → follow s at k (suc n) ≡ true → follow s (at + lengthOf s k) (k + 1) n ≡ true
+pub follow-next : (s : List ℕ) (at k n : ℕ) → follow s at k (suc n) ≡ true → follow s (at + lengthOf s k) (k + 1) n ≡ true
 follow-next s at k n h = and-r (eqb (offsetOf s k) at) (follow s (at + lengthOf s k) (k + 1) n) h
 
-follow-le : (s : List ℕ) (at k n : ℕ) → follow s at k n ≡ true → at ≤ length s
+pub follow-le : (s : List ℕ) (at k n : ℕ) → follow s at k n ≡ true → at ≤ length s
 follow-le s at k zero h = let e : at ≡ length s = eqb-true at (length s) h in omega arith
 follow-le s at k (suc n) h = let l = follow-le s (at + lengthOf s k) (k + 1) n (follow-next s at k n h) in omega arith
 
@@ -114,7 +114,7 @@ module _ (s : List ℕ) (h : clear (sheetChecks s) ≡ true) where
   unfolding wrongVersion
   version = eqb-true (getD s 0 0) 1 (not-false _ (head-at s h 1 (omega arith)))
 
-  paired : (partsBegin s ≤ length s) × (follow s (partsBegin s) 0 (pairsOf s) ≡ true)
+  pub paired : (partsBegin s ≤ length s) × (follow s (partsBegin s) 0 (pairsOf s) ≡ true)
   unfolding wrongPairs
   paired =
       let w : wrongPairs s ≡ false = head-at s h 3 (omega arith) in
@@ -124,7 +124,7 @@ module _ (s : List ℕ) (h : clear (sheetChecks s) ≡ true) where
   unfolding wrongStartBonds
   even = eqb-true (length (partOf s 1) % 2) 0 (not-false _ (or-no-l (not (eqb (length (partOf s 1) % 2) 0)) _ (head-at s h 5 (omega arith))))
 
-  width : (k : ℕ) → k < transitionsOf s → length (transitionBytes s (transition k)) ≡ arcsWidth (transitionBytes s (transition k))
+  pub width : (k : ℕ) → k < transitionsOf s → length (transitionBytes s (transition k)) ≡ arcsWidth (transitionBytes s (transition k))
   unfolding wrongWidth
   width k l =
       let b : List ℕ = transitionBytes s (transition k) in
