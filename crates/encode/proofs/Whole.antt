@@ -8,11 +8,11 @@ use mathlib.Core.List.{List, [], _∷_, _++_, map}
 use lib.Dec.{eqb, ltb}
 use lib.ListN.{length, getD, take, drop, length-take, length-drop, take-append-drop}
 use lib.Seq.{drop-drop}
-use borrow.Author.Tests.{ltb-true, ltb-false, eqb-true, lt-ltb, le-leb, not-false}
+use borrow.Author.Tests.{ltb-false, eqb-true, lt-ltb, le-leb, not-false}
 use Rattle.net.specs.Tests.{table}
 use Rattle.net.specs.Checks.{clear}
 use Rattle.net.specs.Journal.{transition}
-use Rattle.net.proofs.Tests.{and-l, and-r, or-no-l, or-no-r, all-at}
+use Rattle.net.proofs.Tests.{and-l, and-r, or-no-l, or-no-r}
 use Rattle.net.proofs.Tables.{length-table, table-cong}
 use Rattle.text.specs.Joined.{joined}
 use Rattle.format.specs.Bytes.{wordAt, headerWidth, pairWidth}
@@ -24,6 +24,7 @@ use Rattle.sheet_arcs.specs.Conditions.{wrongWidth}
 use Rattle.sheet.specs.Checks.{sheetChecks}
 use Rattle.sheet.proofs.Accepted.{head-at, at-transition}
 use Rattle.encode.specs.Encoding.{bytes, word, allBonds, arcsBytes, stretches, pairs, bytesOf}
+use Rattle.encode.proofs.Bytes.{byte-at}
 use Rattle.encode.proofs.Covers.{Covers, covers-then, covers-byte, covers-all, map-table}
 use Rattle.encode.proofs.Pieces.{two, bonds-back, arcs-back}
 
@@ -77,13 +78,10 @@ parts-cover s at k (suc n) h =
 
 -- ---- the pairs
 
-byte : (s : List ℕ) → bytes s ≡ true → (i : ℕ) → i < length s → getD s i 0 < 256
-byte s b i l = ltb-true _ 256 (all-at (λ (x : ℕ). ltb x 256) s 0 i b l)
-
 -- a word that is read is written again
 word-covers : (s : List ℕ) (i j n : ℕ) → bytes s ≡ true → j ≡ i + 2 → j ≤ length s → n ≡ wordAt s i → Covers s i j (word n)
 word-covers s i j n b e l q =
-    let x : getD s i 0 < 256 = byte s b i (omega arith) in
+    let x = byte-at s i b in
     let lo : n % 256 ≡ getD s i 0 = omega arith in
     let hi : n / 256 ≡ getD s (i + 1) 0 = omega arith in
     rw (lo, hi) (two s i j e l)
