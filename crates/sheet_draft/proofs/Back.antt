@@ -18,8 +18,10 @@ use Rattle.format.specs.Arcs.{entryCount, nthEntry, arcsIn, inAt, inCount, nthI
 use Rattle.format.specs.NetOf.{netOf}
 use Rattle.sheet.specs.Checks.{checked}
 use Rattle.sheet.specs.declared.SheetAnswer.the-variants.{Accepted}
+use Rattle.sheet.proofs.Arcs.{all-table}
 use Rattle.sheet.proofs.Accepted.{accepted-promised}
 use Rattle.encode.specs.Encoding.{bytes, bytesOf}
+use Rattle.encode.proofs.Bytes.{byte-at, bytes-take, bytes-drop}
 use Rattle.sheet_text.specs.Claims.{sheetOf}
 use Rattle.sheet_text.proofs.Back.{read-back}
 use Rattle.sheet_draft.specs.Notes.{mostBytes}
@@ -27,21 +29,6 @@ use Rattle.sheet_draft.specs.Made.{holdableStep, holdable, madeOf, sheet
 use Rattle.sheet_draft.specs.Claims.{MadeBack}
 
 -- ---- every part of a sheet of bytes is of bytes
-
-byte-at : (l : List ℕ) (i : ℕ) → bytes l ≡ true → getD l i 0 ≤ 255
-byte-at [] i h = omega arith
-byte-at (x ∷ l) zero h = let k = ltb-true x 256 (and-l (ltb x 256) (bytes l) h) in omega arith
-byte-at (x ∷ l) (suc i) h = byte-at l i (and-r (ltb x 256) (bytes l) h)
-
-bytes-take : (n : ℕ) (l : List ℕ) → bytes l ≡ true → bytes (take n l) ≡ true
-bytes-take zero l h = refl
-bytes-take (suc n) [] h = refl
-bytes-take (suc n) (x ∷ l) h = and-i (ltb x 256) (bytes (take n l)) (and-l (ltb x 256) (bytes l) h) (bytes-take n l (and-r (ltb x 256) (bytes l) h))
-
-bytes-drop : (n : ℕ) (l : List ℕ) → bytes l ≡ true → bytes (drop n l) ≡ true
-bytes-drop zero l h = h
-bytes-drop (suc n) [] h = refl
-bytes-drop (suc n) (x ∷ l) h = bytes-drop n l (and-r (ltb x 256) (bytes l) h)
 
 module _ (s : List ℕ) (b : bytes s ≡ true) where
   part-bytes : (k : ℕ) → bytes (partOf s k) ≡ true
@@ -53,10 +40,6 @@ module _ (s : List ℕ) (b : bytes s ≡ true) where
   step-bytes k = pick-case (λ (l : List ℕ). bytes l ≡ true) (ltb k (transitionsOf s)) (partOf s (k + leadingPairs)) [] (λ e. part-bytes (k + leadingPairs)) (λ e. refl)
 
 -- ---- an accepted sheet's net can be held
-
-all-of-table : {X : Type 0} (f : X → Bool) (n : ℕ) (g : ℕ → X) → ((k : ℕ) → k < n → f (g k) ≡ true) → all f (table n g) ≡ true
-all-of-table f zero g h = refl
-all-of-table f (suc n) g h = and-i (f (g zero)) (all f (table n (λ k. g (suc k)))) (h zero (omega arith)) (all-of-table f n (λ k. g (suc k)) (λ k l. h (suc k) (omega arith)))
 
 count-held : {X : Type 0} (n : ℕ) (g : ℕ → X) → n ≤ 255 → leb (length (table n g)) 255 ≡ true
 count-held n g h = le-leb (length (table n g)) 255 (omega (arith, length-table n g))
@@ -86,7 +69,7 @@ module _ (s : List ℕ) (h : checked s ≡ Accepted) (b : bytes s ≡ true) wher
 
   counts-held : all holdableStep (netOf s .transitions) ≡ true
   unfolding netOf
-  counts-held = all-of-table holdableStep (transitionsOf s) (λ k. arcsIn (transitionBytes s (transition k))) (λ k l. step-held (transitionBytes s (transition k)) (step-bytes s b k))
+  counts-held = all-table holdableStep (transitionsOf s) (λ k. arcsIn (transitionBytes s (transition k))) (λ k l. step-held (transitionBytes s (transition k)) (step-bytes s b k))
 
   held : holdable (netOf s) ≡ true
   held = and-i _ _ size-held (and-i _ _ parts-held (and-i _ _ steps-held counts-held))

@@ -1,42 +1,34 @@
 -- An accepted sheet's text has room: the text of each stretch is at most lineRoom bytes for each byte of the stretch, and the
 -- stretches follow each other up to the sheet's end. Assumes nothing.
 use mathlib.Core.Path.{_≡_, ap}
-use mathlib.Core.Bool.{Bool, true, false, not}
+use mathlib.Core.Bool.{Bool, true, false}
 use Prim.Native.Nat.{ℕ, zero, suc, _+_, _-_, _*_, _<_, _≤_}
 use native.Mathlib.Omega.{arith}
 use native.Mathlib.Nat.{le-of-suc-le-suc, not-suc-le-zero}
 use mathlib.Core.List.{List, [], _++_}
-use lib.Dec.{eqb, ltb, leb}
+use lib.Dec.{leb}
 use lib.ListN.{length, take, drop, length-take, length-append}
-use borrow.Author.Tests.{eqb-true, lt-ltb, not-false}
+use borrow.Author.Tests.{lt-ltb}
 use Rattle.net.specs.Limits.{maxSheet}
 use Rattle.net.specs.Tests.{pick, table}
 use Rattle.net.specs.Checks.{clear, first}
 use Rattle.net.specs.Journal.{transition}
-use Rattle.net.proofs.Tests.{and-r, or-no-l, or-no-r}
 use Rattle.text.specs.Joined.{joined}
 use Rattle.text.proofs.Joined.{joined-more}
 use Rattle.format.specs.Parts.{basesOf, transitionsOf, pairsOf, offsetOf, lengthOf, partOf, startPlaces, transitionBytes}
 use Rattle.format.specs.Arcs.{arcsWidth}
 use Rattle.format.specs.NetOf.{startBondCount}
-use Rattle.sheet_head.specs.Conditions.{follow, partsBegin, wrongPairs}
-use Rattle.sheet_arcs.specs.Conditions.{wrongWidth}
+use Rattle.sheet_head.specs.Conditions.{follow, partsBegin}
 use Rattle.sheet.specs.Checks.{sheetChecks, checked}
 use Rattle.sheet.specs.declared.SheetAnswer.the-variants.{Accepted}
-use Rattle.sheet.proofs.Accepted.{head-at, at-transition, clear-of, accepted-promised}
+use Rattle.sheet.proofs.Accepted.{clear-of, accepted-promised}
+use Rattle.encode.proofs.Whole.{follow-next, follow-le, paired, width}
 use Rattle.sheet_print.specs.Pieces.{partsText, coupledText, stepAt, stepsText}
 use Rattle.sheet_print.specs.Room.{lineRoom, StepsFit, textRoom}
 use Rattle.sheet_print.proofs.Lists.{parts-upto, coupled-upto}
 use Rattle.sheet_print.proofs.Steps.{step-fits}
 
 -- ---- stretches that follow each other
-
-follow-next : (s : List ℕ) (at k n : ℕ) → follow s at k (suc n) ≡ true → follow s (at + lengthOf s k) (k + 1) n ≡ true
-follow-next s at k n h = and-r (eqb (offsetOf s k) at) (follow s (at + lengthOf s k) (k + 1) n) h
-
-follow-le : (s : List ℕ) (at k n : ℕ) → follow s at k n ≡ true → at ≤ length s
-follow-le s at k zero h = let e : at ≡ length s = eqb-true at (length s) h in omega arith
-follow-le s at k (suc n) h = let l = follow-le s (at + lengthOf s k) (k + 1) n (follow-next s at k n h) in omega arith
 
 -- texts f of the stretches from k on, none longer than lineRoom bytes for each byte of its stretch: the j-th has room behind those
 -- before it
@@ -79,19 +71,13 @@ module _ (s : List ℕ) (h : checked s ≡ Accepted) where
   unfolding checked
   clears = clear-of (clear (sheetChecks s)) (first (sheetChecks s)) h
 
-  follows : follow s (partsBegin s) 0 (pairsOf s) ≡ true
-  unfolding wrongPairs
-  follows = not-false _ (or-no-r (ltb (length s) (partsBegin s)) (not (follow s (partsBegin s) 0 (pairsOf s))) (head-at s clears 3 (omega arith)))
-
   step-bytes : (k : ℕ) → k < transitionsOf s → arcsWidth (transitionBytes s (transition k)) ≤ lengthOf s (2 + k)
-  unfolding wrongWidth transitionBytes
+  unfolding transitionBytes
   step-bytes k l =
-      let b : List ℕ = transitionBytes s (transition k) in
-      let w : length b ≡ arcsWidth b = eqb-true (length b) (arcsWidth b) (not-false _ (or-no-l (not (eqb (length b) (arcsWidth b))) _ (at-transition s clears (transition k) 0 l (omega arith)))) in
       let z : k + 2 ≡ 2 + k = omega arith in
-      let e : b ≡ partOf s (2 + k) = rw (lt-ltb k (transitionsOf s) l, z) in
-      let d : length b ≡ length (partOf s (2 + k)) = ap (λ (x : List ℕ). length x) e in
-      omega (arith, part-le s (2 + k))
+      let e : transitionBytes s (transition k) ≡ partOf s (2 + k) = rw (lt-ltb k (transitionsOf s) l, z) in
+      let d : length (transitionBytes s (transition k)) ≡ length (partOf s (2 + k)) = ap (λ (x : List ℕ). length x) e in
+      omega (arith, width s clears k l, part-le s (2 + k))
 
   piece-fits : (i : ℕ) → i < pairsOf s → length (pieceText s i) ≤ lineRoom * lengthOf s (0 + i)
   piece-fits zero l =
@@ -106,7 +92,7 @@ module _ (s : List ℕ) (h : checked s ≡ Accepted) where
   piece-room : (j : ℕ) → j < pairsOf s → lineRoom + length (joined (table j (pieceText s))) + lineRoom * lengthOf s (0 + j) ≤ textRoom
   piece-room j l =
       let n : length s ≤ maxSheet = accepted-promised s h .size in
-      omega (arith, texts-fit s (partsBegin s) 0 (pairsOf s) (pieceText s) follows piece-fits j l)
+      omega (arith, texts-fit s (partsBegin s) 0 (pairsOf s) (pieceText s) (paired s clears .1) piece-fits j l)
 
   pub parts-room : lineRoom + lineRoom * basesOf s ≤ textRoom
   parts-room =
