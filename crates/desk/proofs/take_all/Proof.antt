@@ -1,16 +1,9 @@
 -- `desk::take_all` is safe and ends.
 -- Assumes nothing.
 use borrow.Author.Needs.{needs}
-use native.Mathlib.Omega.{arith}
-use mathlib.Core.Path.{_≡_, refl, ap, sym, _∙_}
-use Prim.Native.Nat.{ℕ, suc, _+_, _-_, _*_, _<_, _≤_}
-use lib.ListN.{length, getD, take, drop, set}
-use mathlib.Core.List.{List, [], _∷_, _++_}
+use Prim.Native.Nat.{_-_}
 use Rattle.desk.proofs.take_all.Statement.{statement}
 use Rattle.desk.proofs.take_all.Tie as tie
-use Rattle.desk.proofs.take_all.Reads as reads
-use Rattle.desk.proofs.take_all.Lts as lts
-use Rattle.desk.proofs.take_next.Reads as take-next-reads
 
 abbrev Inv-loop : tie.InvT-loop
 Inv-loop count i₀ i = Unit {0}

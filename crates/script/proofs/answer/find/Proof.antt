@@ -1,16 +1,9 @@
 -- `script::answer::find` is safe and ends.
 -- Assumes nothing.
 use borrow.Author.Needs.{needs}
-use native.Mathlib.Omega.{arith}
-use mathlib.Core.Path.{_≡_, refl, ap, sym, _∙_}
-use Prim.Native.Nat.{ℕ, suc, _+_, _-_, _*_, _<_, _≤_}
-use lib.ListN.{length, getD, take, drop, set}
-use mathlib.Core.List.{List, [], _∷_, _++_}
+use Prim.Native.Nat.{_-_}
 use Rattle.script.proofs.answer.find.Statement.{statement}
 use Rattle.script.proofs.answer.find.Tie as tie
-use Rattle.script.proofs.answer.find.Reads as reads
-use Rattle.script.proofs.answer.find.Lts as lts
-use Rattle.script.proofs.answer.chosen.Reads as chosen-reads
 
 abbrev Inv-loop : tie.InvT-loop
 Inv-loop key live keys steps moved x₀ i₀ x i = Unit {0}

@@ -1,17 +1,11 @@
 -- `script::answer::put_live` is safe and ends.
 -- Assumes nothing.
 use borrow.Author.Needs.{needs}
-use native.Mathlib.Omega.{arith}
-use mathlib.Core.Path.{_≡_, refl, ap, sym, _∙_}
-use Prim.Native.Nat.{ℕ, suc, _+_, _-_, _*_, _<_, _≤_}
-use lib.ListN.{length, getD, take, drop, set}
-use mathlib.Core.List.{List, [], _∷_, _++_}
+use mathlib.Core.Path.{_≡_}
+use Prim.Native.Nat.{_-_}
+use lib.ListN.{length}
 use Rattle.script.proofs.answer.put_live.Statement.{statement}
 use Rattle.script.proofs.answer.put_live.Tie as tie
-use Rattle.script.proofs.answer.put_live.Reads as reads
-use Rattle.script.proofs.answer.put_live.Lts as lts
-use Rattle.script.proofs.answer.put_if.Reads as put-if-reads
-use Rattle.script.proofs.put.put_text.Reads as put-text-reads
 
 abbrev Inv-loop : tie.InvT-loop
 Inv-loop buf₀ live keys pos₀ i₀ buf pos i = length buf ≡ length buf₀

@@ -1,17 +1,11 @@
 -- `script::answer::put_parts` is safe and ends.
 -- Assumes nothing.
 use borrow.Author.Needs.{needs}
-use native.Mathlib.Omega.{arith}
-use mathlib.Core.Path.{_≡_, refl, ap, sym, _∙_}
-use Prim.Native.Nat.{ℕ, suc, _+_, _-_, _*_, _<_, _≤_}
-use lib.ListN.{length, getD, take, drop, set}
-use mathlib.Core.List.{List, [], _∷_, _++_}
+use mathlib.Core.Path.{_≡_}
+use Prim.Native.Nat.{_-_}
+use lib.ListN.{length, set}
 use Rattle.script.proofs.answer.put_parts.Statement.{statement}
 use Rattle.script.proofs.answer.put_parts.Tie as tie
-use Rattle.script.proofs.answer.put_parts.Reads as reads
-use Rattle.script.proofs.answer.put_parts.Lts as lts
-use Rattle.script.proofs.answer.put_if.Reads as put-if-reads
-use Rattle.words.proofs.has_base.Reads as has-base-reads
 
 abbrev Inv-loop : tie.InvT-loop
 Inv-loop buf₀ at set pos₀ p₀ buf pos p = length buf ≡ length buf₀

@@ -1,17 +1,11 @@
 -- `script::answer::put_where` is safe and ends.
 -- Assumes nothing.
 use borrow.Author.Needs.{needs}
-use native.Mathlib.Omega.{arith}
-use mathlib.Core.Path.{_≡_, refl, ap, sym, _∙_}
-use Prim.Native.Nat.{ℕ, suc, _+_, _-_, _*_, _<_, _≤_}
-use lib.ListN.{length, getD, take, drop, set}
-use mathlib.Core.List.{List, [], _∷_, _++_}
+use mathlib.Core.Path.{_≡_}
+use Prim.Native.Nat.{_-_}
+use lib.ListN.{length}
 use Rattle.script.proofs.answer.put_where.Statement.{statement}
 use Rattle.script.proofs.answer.put_where.Tie as tie
-use Rattle.script.proofs.answer.put_where.Reads as reads
-use Rattle.script.proofs.answer.put_where.Lts as lts
-use Rattle.script.proofs.answer.put_if.Reads as put-if-reads
-use Rattle.script.proofs.put.put_text.Reads as put-text-reads
 
 abbrev Inv-loop : tie.InvT-loop
 Inv-loop buf₀ n places pos₀ p₀ buf pos p = length buf ≡ length buf₀

@@ -1,16 +1,11 @@
 -- `script::desk::copy` is safe and ends.
 -- Assumes nothing.
 use borrow.Author.Needs.{needs}
-use native.Mathlib.Omega.{arith}
-use mathlib.Core.Path.{_≡_, refl, ap, sym, _∙_}
-use Prim.Native.Nat.{ℕ, suc, _+_, _-_, _*_, _<_, _≤_}
-use lib.ListN.{length, getD, take, drop, set}
-use mathlib.Core.List.{List, [], _∷_, _++_}
+use mathlib.Core.Path.{_≡_}
+use Prim.Native.Nat.{_-_}
+use lib.ListN.{length}
 use Rattle.script.proofs.desk.copy.Statement.{statement}
 use Rattle.script.proofs.desk.copy.Tie as tie
-use Rattle.script.proofs.desk.copy.Reads as reads
-use Rattle.script.proofs.desk.copy.Lts as lts
-use Rattle.script.proofs.desk.put_at.Reads as put-at-reads
 
 abbrev Inv-loop : tie.InvT-loop
 Inv-loop from room₀ i₀ room i = length room ≡ length room₀

@@ -1,19 +1,11 @@
 -- `script::desk::take_lines` is safe and ends.
 -- Assumes nothing.
 use borrow.Author.Needs.{needs}
-use native.Mathlib.Omega.{arith}
-use mathlib.Core.Path.{_≡_, refl, ap, sym, _∙_}
-use Prim.Native.Nat.{ℕ, suc, _+_, _-_, _*_, _<_, _≤_}
-use lib.ListN.{length, getD, take, drop, set}
-use mathlib.Core.List.{List, [], _∷_, _++_}
+use mathlib.Core.Path.{_≡_}
+use Prim.Native.Nat.{_-_}
+use lib.ListN.{length}
 use Rattle.script.proofs.desk.take_lines.Statement.{statement}
 use Rattle.script.proofs.desk.take_lines.Tie as tie
-use Rattle.script.proofs.desk.take_lines.Reads as reads
-use Rattle.script.proofs.desk.take_lines.Lts as lts
-use Rattle.script.proofs.desk.at_start.Reads as at-start-reads
-use Rattle.script.proofs.desk.next_line.Reads as next-line-reads
-use Rattle.script.proofs.desk.take_line.Reads as take-line-reads
-use Rattle.script.proofs.sheets.line_end.Reads as line-end-reads
 
 abbrev Inv-loop : tie.InvT-loop
 Inv-loop name text sheet₀ answer₀ d₀ at₀ sheet answer d at = (length sheet ≡ length sheet₀) × (length answer ≡ length answer₀)

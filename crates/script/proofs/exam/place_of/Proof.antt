@@ -1,22 +1,10 @@
 -- `script::exam::place_of` is safe and ends.
 -- Assumes nothing.
 use borrow.Author.Needs.{needs}
-use native.Mathlib.Omega.{arith}
-use mathlib.Core.Path.{_≡_, refl, ap, sym, _∙_}
-use Prim.Native.Nat.{ℕ, suc, _+_, _-_, _*_, _<_, _≤_}
-use lib.ListN.{length, getD, take, drop, set}
-use mathlib.Core.List.{List, [], _∷_, _++_}
+use Prim.Native.Nat.{_-_}
+use lib.ListN.{length}
 use Rattle.script.proofs.exam.place_of.Statement.{statement}
 use Rattle.script.proofs.exam.place_of.Tie as tie
-use Rattle.script.proofs.exam.place_of.Reads as reads
-use Rattle.script.proofs.exam.place_of.Lts as lts
-use Rattle.script.proofs.exam.begun_by.Reads as begun-by-reads
-use Rattle.script.proofs.exam.nowhere.Reads as nowhere-reads
-use Rattle.script.proofs.exam.passed.Reads as passed-reads
-use Rattle.script.proofs.form.form_of.Reads as form-of-reads
-use Rattle.script.proofs.part.between.Reads as between-reads
-use Rattle.script.proofs.sheets.line_end.Reads as line-end-reads
-use Rattle.script.proofs.sheets.one_more.Reads as one-more-reads
 
 abbrev Inv-loop : tie.InvT-loop
 Inv-loop text p₀ at₀ k₀ p at k = Unit {0}

@@ -1,17 +1,11 @@
 -- `script::exam::put_bytes` is safe and ends.
 -- Assumes nothing.
 use borrow.Author.Needs.{needs}
-use native.Mathlib.Omega.{arith}
-use mathlib.Core.Path.{_≡_, refl, ap, sym, _∙_}
-use Prim.Native.Nat.{ℕ, suc, _+_, _-_, _*_, _<_, _≤_}
-use lib.ListN.{length, getD, take, drop, set}
-use mathlib.Core.List.{List, [], _∷_, _++_}
+use mathlib.Core.Path.{_≡_}
+use Prim.Native.Nat.{_-_}
+use lib.ListN.{length}
 use Rattle.script.proofs.exam.put_bytes.Statement.{statement}
 use Rattle.script.proofs.exam.put_bytes.Tie as tie
-use Rattle.script.proofs.exam.put_bytes.Reads as reads
-use Rattle.script.proofs.exam.put_bytes.Lts as lts
-use Rattle.script.proofs.exam.put_byte.Reads as put-byte-reads
-use Rattle.script.proofs.put.put_text.Reads as put-text-reads
 
 abbrev Inv-loop : tie.InvT-loop
 Inv-loop buf₀ at bytes pos₀ i₀ buf pos i = length buf ≡ length buf₀

@@ -1,18 +1,11 @@
 -- `script::exam::put_orders` is safe and ends.
 -- Assumes nothing.
 use borrow.Author.Needs.{needs}
-use native.Mathlib.Omega.{arith}
-use mathlib.Core.Path.{_≡_, refl, ap, sym, _∙_}
-use Prim.Native.Nat.{ℕ, suc, _+_, _-_, _*_, _<_, _≤_}
-use lib.ListN.{length, getD, take, drop, set}
-use mathlib.Core.List.{List, [], _∷_, _++_}
+use mathlib.Core.Path.{_≡_}
+use Prim.Native.Nat.{_-_}
+use lib.ListN.{length}
 use Rattle.script.proofs.exam.put_orders.Statement.{statement}
 use Rattle.script.proofs.exam.put_orders.Tie as tie
-use Rattle.script.proofs.exam.put_orders.Reads as reads
-use Rattle.script.proofs.exam.put_orders.Lts as lts
-use Rattle.script.proofs.exam.put_order.Reads as put-order-reads
-use Rattle.script.proofs.part.between.Reads as between-reads
-use Rattle.script.proofs.sheets.line_end.Reads as line-end-reads
 
 abbrev Inv-loop : tie.InvT-loop
 Inv-loop text out₀ n end₀ at₀ out end at = length out ≡ length out₀

@@ -1,18 +1,10 @@
 -- `script::files::print_commands` is safe and ends.
 -- Assumes nothing.
 use borrow.Author.Needs.{needs}
-use native.Mathlib.Omega.{arith}
-use mathlib.Core.Path.{_≡_, refl, ap, sym, _∙_}
-use Prim.Native.Nat.{ℕ, suc, _+_, _-_, _*_, _<_, _≤_}
-use lib.ListN.{length, getD, take, drop, set}
-use mathlib.Core.List.{List, [], _∷_, _++_}
+use Prim.Native.Nat.{_-_}
+use lib.ListN.{length}
 use Rattle.script.proofs.files.print_commands.Statement.{statement}
 use Rattle.script.proofs.files.print_commands.Tie as tie
-use Rattle.script.proofs.files.print_commands.Reads as reads
-use Rattle.script.proofs.files.print_commands.Lts as lts
-use Rattle.script.proofs.files.command_end.Reads as command-end-reads
-use Rattle.script.proofs.files.print_command.Reads as print-command-reads
-use Rattle.script.proofs.part.between.Reads as between-reads
 
 abbrev Inv-loop : tie.InvT-loop
 Inv-loop input from whole₀ at₀ whole at = Unit {0}

@@ -1,18 +1,11 @@
 -- `script::hex::put_hex` is safe and ends.
 -- Assumes nothing.
 use borrow.Author.Needs.{needs}
-use native.Mathlib.Omega.{arith}
-use mathlib.Core.Path.{_≡_, refl, ap, sym, _∙_}
-use Prim.Native.Nat.{ℕ, suc, _+_, _-_, _*_, _<_, _≤_}
-use lib.ListN.{length, getD, take, drop, set}
-use mathlib.Core.List.{List, [], _∷_, _++_}
+use mathlib.Core.Path.{_≡_}
+use Prim.Native.Nat.{_-_}
+use lib.ListN.{length}
 use Rattle.script.proofs.hex.put_hex.Statement.{statement}
 use Rattle.script.proofs.hex.put_hex.Tie as tie
-use Rattle.script.proofs.hex.put_hex.Reads as reads
-use Rattle.script.proofs.hex.put_hex.Lts as lts
-use Rattle.script.proofs.hex.hex_at.Reads as hex-at-reads
-use Rattle.script.proofs.hex.read_so_far.Reads as read-so-far-reads
-use Rattle.script.proofs.put.put.Reads as put-reads
 
 abbrev Inv-loop : tie.InvT-loop
 Inv-loop line at buf₀ n pos₀ end₀ left₀ buf pos end left = length buf ≡ length buf₀

@@ -1,15 +1,10 @@
 -- `script::part::text_end` is safe and ends.
 -- Assumes nothing.
 use borrow.Author.Needs.{needs}
-use native.Mathlib.Omega.{arith}
-use mathlib.Core.Path.{_≡_, refl, ap, sym, _∙_}
-use Prim.Native.Nat.{ℕ, suc, _+_, _-_, _*_, _<_, _≤_}
-use lib.ListN.{length, getD, take, drop, set}
-use mathlib.Core.List.{List, [], _∷_, _++_}
+use Prim.Native.Nat.{_-_}
+use lib.ListN.{length}
 use Rattle.script.proofs.part.text_end.Statement.{statement}
 use Rattle.script.proofs.part.text_end.Tie as tie
-use Rattle.script.proofs.part.text_end.Reads as reads
-use Rattle.script.proofs.part.text_end.Lts as lts
 
 abbrev Inv-loop : tie.InvT-loop
 Inv-loop line end₀ i₀ end i = Unit {0}

@@ -1,20 +1,12 @@
 -- `script::program::take_file` is safe and ends.
 -- Assumes nothing.
-use native.Mathlib.Omega.{arith}
-use mathlib.Core.Path.{_≡_, refl, ap, sym, _∙_}
-use Prim.Native.Nat.{ℕ, suc, _+_, _-_, _*_, _<_, _≤_}
+use mathlib.Core.Path.{sym}
+use Prim.Native.Nat.{_-_, _≤_}
 use lib.Seq.{length-take-le}
-use lib.ListN.{length, getD, take, drop, set}
-use mathlib.Core.List.{List, [], _∷_, _++_}
+use lib.ListN.{length}
 use borrow.Author.Needs.{needs}
 use Rattle.script.proofs.program.take_file.Statement.{statement}
 use Rattle.script.proofs.program.take_file.Tie as tie
-use Rattle.script.proofs.program.take_file.Reads as reads
-use Rattle.script.proofs.program.take_file.Lts as lts
-use Rattle.script.proofs.program.complain.Reads as complain-reads
-use Rattle.script.proofs.program.text_room.Reads as text-room-reads
-use Rattle.script.proofs.program.work.Reads as work-reads
-use Rattle.reading.proofs.read_all.Reads as read-all-reads
 
 text-room-requires : tie.Need-text-room-requires
 text-room-requires c κs = search needs

@@ -1,20 +1,7 @@
 use borrow.Author.Needs.{needs}
-use native.Mathlib.Omega.{arith}
-use mathlib.Core.Path.{_≡_, refl, ap, sym, _∙_}
-use Prim.Native.Nat.{ℕ, suc, _+_, _-_, _*_, _<_, _≤_}
-use lib.ListN.{length, getD, take, drop, set}
-use mathlib.Core.List.{List, [], _∷_, _++_}
+use Prim.Native.Nat.{_-_}
 use Rattle.script.proofs.program.take_named.Statement.{statement}
 use Rattle.script.proofs.program.take_named.Tie as tie
-use Rattle.script.proofs.program.take_named.Reads as reads
-use Rattle.script.proofs.program.take_named.Lts as lts
-use Rattle.io.proofs.buffer.Reads as buffer-reads
-use Rattle.libc.proofs.close.Reads as close-reads
-use Rattle.os.proofs.arg.Reads as arg-reads
-use Rattle.os.proofs.errno.Reads as errno-reads
-use Rattle.os.proofs.fail.Reads as fail-reads
-use Rattle.os.proofs.open_read.Reads as open-read-reads
-use Rattle.script.proofs.program.take_file.Reads as take-file-reads
 
 -- src/program.rt:70:20
 buffer-requires : tie.Need-buffer-requires

@@ -1,17 +1,11 @@
 -- `script::put::put_phrase` is safe and ends.
 -- Assumes nothing.
 use borrow.Author.Needs.{needs}
-use native.Mathlib.Omega.{arith}
-use mathlib.Core.Path.{_≡_, refl, ap, sym, _∙_}
-use Prim.Native.Nat.{ℕ, suc, _+_, _-_, _*_, _<_, _≤_}
-use lib.ListN.{length, getD, take, drop, set}
-use mathlib.Core.List.{List, [], _∷_, _++_}
+use mathlib.Core.Path.{_≡_}
+use Prim.Native.Nat.{_-_}
+use lib.ListN.{length}
 use Rattle.script.proofs.put.put_phrase.Statement.{statement}
 use Rattle.script.proofs.put.put_phrase.Tie as tie
-use Rattle.script.proofs.put.put_phrase.Reads as reads
-use Rattle.script.proofs.put.put_phrase.Lts as lts
-use Rattle.script.proofs.put.passed.Reads as passed-reads
-use Rattle.script.proofs.put.put_letter.Reads as put-letter-reads
 
 abbrev Inv-loop : tie.InvT-loop
 Inv-loop buf₀ words n pos₀ k₀ i₀ buf pos k i = length buf ≡ length buf₀

@@ -1,16 +1,11 @@
 -- `script::put::put_text` is safe and ends.
 -- Assumes nothing.
 use borrow.Author.Needs.{needs}
-use native.Mathlib.Omega.{arith}
-use mathlib.Core.Path.{_≡_, refl, ap, sym, _∙_}
-use Prim.Native.Nat.{ℕ, suc, _+_, _-_, _*_, _<_, _≤_}
-use lib.ListN.{length, getD, take, drop, set}
-use mathlib.Core.List.{List, [], _∷_, _++_}
+use mathlib.Core.Path.{_≡_}
+use Prim.Native.Nat.{_-_}
+use lib.ListN.{length}
 use Rattle.script.proofs.put.put_text.Statement.{statement}
 use Rattle.script.proofs.put.put_text.Tie as tie
-use Rattle.script.proofs.put.put_text.Reads as reads
-use Rattle.script.proofs.put.put_text.Lts as lts
-use Rattle.script.proofs.put.put.Reads as put-reads
 
 abbrev Inv-loop : tie.InvT-loop
 Inv-loop buf₀ at text pos₀ i₀ buf pos i = length buf ≡ length buf₀

@@ -1,18 +1,9 @@
 -- `script::refused::first_misfit` is safe and ends.
 -- Assumes nothing.
 use borrow.Author.Needs.{needs}
-use native.Mathlib.Omega.{arith}
-use mathlib.Core.Path.{_≡_, refl, ap, sym, _∙_}
-use Prim.Native.Nat.{ℕ, suc, _+_, _-_, _*_, _<_, _≤_}
-use lib.ListN.{length, getD, take, drop, set}
-use mathlib.Core.List.{List, [], _∷_, _++_}
+use Prim.Native.Nat.{_-_}
 use Rattle.script.proofs.refused.first_misfit.Statement.{statement}
 use Rattle.script.proofs.refused.first_misfit.Tie as tie
-use Rattle.script.proofs.refused.first_misfit.Reads as reads
-use Rattle.script.proofs.refused.first_misfit.Lts as lts
-use Rattle.format.proofs.start_bond.Reads as start-bond-reads
-use Rattle.script.proofs.refused.in_order.Reads as in-order-reads
-use Rattle.script.proofs.refused.is_coupling.Reads as is-coupling-reads
 
 abbrev Inv-loop : tie.InvT-loop
 Inv-loop sheet n before₀ i₀ before i = Unit {0}

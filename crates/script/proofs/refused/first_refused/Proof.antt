@@ -1,16 +1,9 @@
 -- `script::refused::first_refused` is safe and ends.
 -- Assumes nothing.
 use borrow.Author.Needs.{needs}
-use native.Mathlib.Omega.{arith}
-use mathlib.Core.Path.{_≡_, refl, ap, sym, _∙_}
-use Prim.Native.Nat.{ℕ, suc, _+_, _-_, _*_, _<_, _≤_}
-use lib.ListN.{length, getD, take, drop, set}
-use mathlib.Core.List.{List, [], _∷_, _++_}
+use Prim.Native.Nat.{_-_}
 use Rattle.script.proofs.refused.first_refused.Statement.{statement}
 use Rattle.script.proofs.refused.first_refused.Tie as tie
-use Rattle.script.proofs.refused.first_refused.Reads as reads
-use Rattle.script.proofs.refused.first_refused.Lts as lts
-use Rattle.sheet.proofs.transition_refusal.Reads as transition-refusal-reads
 
 abbrev Inv-loop : tie.InvT-loop
 Inv-loop sheet n k₀ k = Unit {0}

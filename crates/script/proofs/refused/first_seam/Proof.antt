@@ -1,17 +1,9 @@
 -- `script::refused::first_seam` is safe and ends.
 -- Assumes nothing.
 use borrow.Author.Needs.{needs}
-use native.Mathlib.Omega.{arith}
-use mathlib.Core.Path.{_≡_, refl, ap, sym, _∙_}
-use Prim.Native.Nat.{ℕ, suc, _+_, _-_, _*_, _<_, _≤_}
-use lib.ListN.{length, getD, take, drop, set}
-use mathlib.Core.List.{List, [], _∷_, _++_}
+use Prim.Native.Nat.{_-_}
 use Rattle.script.proofs.refused.first_seam.Statement.{statement}
 use Rattle.script.proofs.refused.first_seam.Tie as tie
-use Rattle.script.proofs.refused.first_seam.Reads as reads
-use Rattle.script.proofs.refused.first_seam.Lts as lts
-use Rattle.format.proofs.pair_length.Reads as pair-length-reads
-use Rattle.format.proofs.pair_offset.Reads as pair-offset-reads
 
 abbrev Inv-loop : tie.InvT-loop
 Inv-loop sheet n begin to-be₀ k₀ to-be k = Unit {0}

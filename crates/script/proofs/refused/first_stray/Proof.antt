@@ -1,17 +1,9 @@
 -- `script::refused::first_stray` is safe and ends.
 -- Assumes nothing.
 use borrow.Author.Needs.{needs}
-use native.Mathlib.Omega.{arith}
-use mathlib.Core.Path.{_≡_, refl, ap, sym, _∙_}
-use Prim.Native.Nat.{ℕ, suc, _+_, _-_, _*_, _<_, _≤_}
-use lib.ListN.{length, getD, take, drop, set}
-use mathlib.Core.List.{List, [], _∷_, _++_}
+use Prim.Native.Nat.{_-_}
 use Rattle.script.proofs.refused.first_stray.Statement.{statement}
 use Rattle.script.proofs.refused.first_stray.Tie as tie
-use Rattle.script.proofs.refused.first_stray.Reads as reads
-use Rattle.script.proofs.refused.first_stray.Lts as lts
-use Rattle.format.proofs.entry.Reads as entry-reads
-use Rattle.script.proofs.refused.is_entry.Reads as is-entry-reads
 
 abbrev Inv-loop : tie.InvT-loop
 Inv-loop b n places parts above₀ i₀ above i = Unit {0}

@@ -1,15 +1,10 @@
 -- `script::same::same_bytes` is safe and ends.
 -- Assumes nothing.
 use borrow.Author.Needs.{needs}
-use native.Mathlib.Omega.{arith}
-use mathlib.Core.Path.{_≡_, refl, ap, sym, _∙_}
-use Prim.Native.Nat.{ℕ, suc, _+_, _-_, _*_, _<_, _≤_}
-use lib.ListN.{length, getD, take, drop, set}
-use mathlib.Core.List.{List, [], _∷_, _++_}
+use Prim.Native.Nat.{_-_}
+use lib.ListN.{length}
 use Rattle.script.proofs.same.same_bytes.Statement.{statement}
 use Rattle.script.proofs.same.same_bytes.Tie as tie
-use Rattle.script.proofs.same.same_bytes.Reads as reads
-use Rattle.script.proofs.same.same_bytes.Lts as lts
 
 abbrev Inv-loop : tie.InvT-loop
 Inv-loop a b same₀ i₀ same i = Unit {0}

@@ -1,18 +1,9 @@
 -- `script::same::same_items` is safe and ends.
 -- Assumes nothing.
 use borrow.Author.Needs.{needs}
-use native.Mathlib.Omega.{arith}
-use mathlib.Core.Path.{_≡_, refl, ap, sym, _∙_}
-use Prim.Native.Nat.{ℕ, suc, _+_, _-_, _*_, _<_, _≤_}
-use lib.ListN.{length, getD, take, drop, set}
-use mathlib.Core.List.{List, [], _∷_, _++_}
+use Prim.Native.Nat.{_-_}
 use Rattle.script.proofs.same.same_items.Statement.{statement}
 use Rattle.script.proofs.same.same_items.Tie as tie
-use Rattle.script.proofs.same.same_items.Reads as reads
-use Rattle.script.proofs.same.same_items.Lts as lts
-use Rattle.script.proofs.same.closes.Reads as closes-reads
-use Rattle.script.proofs.same.item_at.Reads as item-at-reads
-use Rattle.script.proofs.same.same_item.Reads as same-item-reads
 
 abbrev Inv-loop : tie.InvT-loop
 Inv-loop a b i₀ j₀ left₀ i j left = Unit {0}

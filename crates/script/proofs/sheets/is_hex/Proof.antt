@@ -1,17 +1,10 @@
 -- `script::sheets::is_hex` is safe and ends.
 -- Assumes nothing.
 use borrow.Author.Needs.{needs}
-use native.Mathlib.Omega.{arith}
-use mathlib.Core.Path.{_≡_, refl, ap, sym, _∙_}
-use Prim.Native.Nat.{ℕ, suc, _+_, _-_, _*_, _<_, _≤_}
-use lib.ListN.{length, getD, take, drop, set}
-use mathlib.Core.List.{List, [], _∷_, _++_}
+use Prim.Native.Nat.{_-_}
+use lib.ListN.{length}
 use Rattle.script.proofs.sheets.is_hex.Statement.{statement}
 use Rattle.script.proofs.sheets.is_hex.Tie as tie
-use Rattle.script.proofs.sheets.is_hex.Reads as reads
-use Rattle.script.proofs.sheets.is_hex.Lts as lts
-use Rattle.script.proofs.sheets.line_end.Reads as line-end-reads
-use Rattle.script.proofs.sheets.tells.Reads as tells-reads
 
 abbrev Inv-loop : tie.InvT-loop
 Inv-loop text at₀ at = Unit {0}

@@ -1,20 +1,11 @@
 -- `script::sheets::spelled` is safe and ends.
 -- Assumes nothing.
 use borrow.Author.Needs.{needs}
-use native.Mathlib.Omega.{arith}
-use mathlib.Core.Path.{_≡_, refl, ap, sym, _∙_}
-use Prim.Native.Nat.{ℕ, suc, _+_, _-_, _*_, _<_, _≤_}
-use lib.ListN.{length, getD, take, drop, set}
-use mathlib.Core.List.{List, [], _∷_, _++_}
+use mathlib.Core.Path.{_≡_}
+use Prim.Native.Nat.{_-_}
+use lib.ListN.{length}
 use Rattle.script.proofs.sheets.spelled.Statement.{statement}
 use Rattle.script.proofs.sheets.spelled.Tie as tie
-use Rattle.script.proofs.sheets.spelled.Reads as reads
-use Rattle.script.proofs.sheets.spelled.Lts as lts
-use Rattle.script.proofs.sheets.bytes_line.Reads as bytes-line-reads
-use Rattle.script.proofs.sheets.line_end.Reads as line-end-reads
-use Rattle.script.proofs.sheets.mistaken.Reads as mistaken-reads
-use Rattle.script.proofs.sheets.one_more.Reads as one-more-reads
-use Rattle.script.proofs.sheets.sheet_of.Reads as sheet-of-reads
 
 abbrev Inv-loop : tie.InvT-loop
 Inv-loop text buf₀ at₀ k₀ n₀ buf at k n = length buf ≡ length buf₀
