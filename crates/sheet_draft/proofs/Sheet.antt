@@ -95,3 +95,12 @@ module _ (A : List ℕ) where
         let n : k < length (table S (λ (j : ℕ). j)) = rw (length-table S (λ (j : ℕ). j)) (omega arith) in
         let a = all-at (stepFits A) (table S (λ k. k)) 0 k (and-r (leb S 255) (all (stepFits A) (table S (λ k. k))) rest) n in
         subst (λ (j : ℕ). stepFits A j ≡ true) (getD-table S (λ k. k) k 0 (omega arith)) a
+
+-- ---- tests that were made one after the other
+
+abbrev pub byte : ℕ → Bool
+byte n = leb n 255
+
+-- three tests, joined
+pub three-tests : {a a′ b b′ c c′ bc r : Bool} → a ≡ a′ → b ≡ b′ → c ≡ c′ → bc ≡ (b && c) → r ≡ (a && bc) → r ≡ (a′ && (b′ && c′))
+three-tests p q s j k = k ∙ (λ i. p i && (j ∙ (λ h. q h && s h)) i)

@@ -1,5 +1,7 @@
 -- `sheet_draft::counts::step_fits` meets its contract.
 -- Assumes nothing but the laws of proofs/.
+use Rattle.sheet_draft.proofs.Sheet.{byte, three-tests}
+use mathlib.Core.Path.{ap, _∙_}
 use borrow.Author.Needs.{needs}
 use Rattle.sheet_draft.proofs.counts.step_fits.Statement.{statement}
 use Rattle.sheet_draft.proofs.counts.step_fits.Tie as tie
@@ -41,7 +43,15 @@ both-requires-2 : tie.Need-both-requires-2
 both-requires-2 c κs = search needs
 
 returns : tie.Need-returns
-returns c = cc
+returns c =
+    let last = c .before .before in
+    let mid = last .before .before in
+    let one = mid .before .before in
+    three-tests
+    (one .is-byte .ensures ∙ ap byte (one .before .count-of .ensures))
+    (mid .is-byte2 .ensures ∙ ap byte (mid .before .count-of2 .ensures))
+    (last .is-byte3 .ensures ∙ ap byte (last .before .count-of3 .ensures))
+    (c .before .both .ensures) (c .both2 .ensures)
 
 pub step-fits-spec : {M : Type 1} → statement M
 step-fits-spec =
