@@ -45,66 +45,30 @@ pub fn put_count(buf: &mut [u8], at: usize, word: &[u8], n: usize) -> usize {
     put_item(buf, a, n)
 }
 
-// The numbers of a phrase, in their order.
-pub struct Numbers {
-    pub a: usize,
-    pub b: usize,
-    pub c: usize,
-    pub d: usize,
-}
-
-fn nth(n: Numbers, k: u8) -> usize {
-    match k {
-        0 => n.a,
-        1 => n.b,
-        2 => n.c,
-        _ => n.d,
-    }
-}
-
-// A letter of a phrase; for `#` number k.
-fn put_letter(buf: &mut [u8], at: usize, c: u8, n: Numbers, k: u8) -> usize {
+// A letter of a phrase; a number in place of `#`.
+fn put_letter(buf: &mut [u8], at: usize, c: u8, n: usize) -> usize {
     if c == b'#' {
-        return put_number(buf, at, nth(n, k));
+        return put_number(buf, at, n);
     }
     put(buf, at, c)
 }
 
-// Which number is next behind a letter.
-fn passed(k: u8, c: u8) -> u8 {
-    if c != b'#' {
-        return k;
-    }
-    if k < 3 { k + 1 } else { k }
-}
-
-// A phrase from the buffer's start, its numbers in place of `#`.
-pub fn put_phrase(buf: &mut [u8], words: &[u8], n: Numbers) -> usize {
+// A phrase from the buffer's start, with numbers in place of `#`, in their order.
+pub fn put_phrase(buf: &mut [u8], words: &[u8], a: usize, b: usize, c: usize, d: usize) -> usize {
+    let mut next = a;
+    let mut second = b;
+    let mut third = c;
     let mut pos = 0;
-    let mut k: u8 = 0;
     let mut i = 0;
     while i < words.len() {
-        let c = words[i];
-        pos = put_letter(buf, pos, c, n, k);
-        k = passed(k, c);
+        let letter = words[i];
+        pos = put_letter(buf, pos, letter, next);
+        if letter == b'#' {
+            next = second;
+            second = third;
+            third = d;
+        }
         i += 1;
     }
     pos
-}
-
-pub fn four(a: usize, b: usize, c: usize, d: usize) -> Numbers {
-    Numbers {
-        a: a,
-        b: b,
-        c: c,
-        d: d,
-    }
-}
-
-pub fn two(a: usize, b: usize) -> Numbers {
-    four(a, b, 0, 0)
-}
-
-pub fn one(a: usize) -> Numbers {
-    four(a, 0, 0, 0)
 }

@@ -1,10 +1,6 @@
 // Why a sheet was refused, in words (document 01, the turned-away list, 1 to 9): the number's condition, and the pair, part,
 // coupling or step that it is about. Only what is printed: that a sheet is refused, and by which number, is the crate sheet's.
-use crate::put::Numbers;
-use crate::put::four;
-use crate::put::one;
 use crate::put::put_phrase;
-use crate::put::two;
 use format::arcs_width;
 use format::base_count;
 use format::byte_at;
@@ -61,18 +57,31 @@ fn put_pairs(buf: &mut [u8], sheet: &[u8]) -> usize {
         return put_phrase(
             buf,
             b"the pairs end at byte # and the sheet at #",
-            two(begin, sheet.len()),
+            begin,
+            sheet.len(),
+            0,
+            0,
         );
     }
     let s = first_seam(sheet, n, begin);
-    let numbers = four(s.pair as usize, s.is, s.to_be, 0);
+    let pair = s.pair as usize;
     if s.pair < n {
-        return put_phrase(buf, b"pair # has offset # and is to have #", numbers);
+        return put_phrase(
+            buf,
+            b"pair # has offset # and is to have #",
+            pair,
+            s.is,
+            s.to_be,
+            0,
+        );
     }
     put_phrase(
         buf,
         b"the last of # pairs does not end at byte # but at #",
-        numbers,
+        pair,
+        s.is,
+        s.to_be,
+        0,
     )
 }
 
@@ -95,7 +104,10 @@ fn put_start_places(buf: &mut [u8], sheet: &[u8]) -> usize {
         return put_phrase(
             buf,
             b"the start places are # and the parts #",
-            two(places.len(), parts),
+            places.len(),
+            parts,
+            0,
+            0,
         );
     }
     let n = place_count(sheet);
@@ -103,7 +115,10 @@ fn put_start_places(buf: &mut [u8], sheet: &[u8]) -> usize {
     put_phrase(
         buf,
         b"part # starts at # and the places are #",
-        four(p, byte_at(places, p) as usize, n as usize, 0),
+        p,
+        byte_at(places, p) as usize,
+        n as usize,
+        0,
     )
 }
 
@@ -153,7 +168,10 @@ fn put_start_couplings(buf: &mut [u8], sheet: &[u8]) -> usize {
         return put_phrase(
             buf,
             b"the start couplings have # bytes and that is odd",
-            one(bytes.len()),
+            bytes.len(),
+            0,
+            0,
+            0,
         );
     }
     let n = start_bond_count(sheet);
@@ -162,7 +180,10 @@ fn put_start_couplings(buf: &mut [u8], sheet: &[u8]) -> usize {
     put_phrase(
         buf,
         b"start coupling # #-# breaks its rule",
-        four(i as usize, b.lo as usize, b.hi as usize, 0),
+        i as usize,
+        b.lo as usize,
+        b.hi as usize,
+        0,
     )
 }
 
@@ -186,13 +207,19 @@ fn put_width(buf: &mut [u8], k: usize, b: &[u8]) -> usize {
         return put_phrase(
             buf,
             b"step # has # bytes and its counts give #",
-            four(k, b.len(), width, 0),
+            k,
+            b.len(),
+            width,
+            0,
         );
     }
     put_phrase(
         buf,
         b"step # has # entries and is to have 1 to 64",
-        two(k, entry_count(b) as usize),
+        k,
+        entry_count(b) as usize,
+        0,
+        0,
     )
 }
 
@@ -231,7 +258,10 @@ fn put_entry(buf: &mut [u8], k: usize, b: &[u8], places: u8, parts: u8) -> usize
     put_phrase(
         buf,
         b"step # moves part # from # to # and one of them is not there or the parts do not ascend",
-        four(k, e.base as usize, e.from as usize, e.to as usize),
+        k,
+        e.base as usize,
+        e.from as usize,
+        e.to as usize,
     )
 }
 
@@ -247,7 +277,21 @@ fn put_step(buf: &mut [u8], sheet: &[u8], number: u8) -> usize {
     put_phrase(
         buf,
         b"step # has a coupling that breaks its rule",
-        one(k as usize),
+        k as usize,
+        0,
+        0,
+        0,
+    )
+}
+
+fn put_counts(buf: &mut [u8], sheet: &[u8]) -> usize {
+    put_phrase(
+        buf,
+        b"places # parts # steps # and each is to be 1 to 64",
+        place_count(sheet) as usize,
+        base_count(sheet) as usize,
+        transition_count(sheet) as usize,
+        0,
     )
 }
 
@@ -258,33 +302,26 @@ pub fn put_refused(buf: &mut [u8], sheet: &[u8], number: u8) -> usize {
             put_phrase(
                 buf,
                 b"the sheet has # bytes and is to have 4 to 32768",
-                one(sheet.len()),
+                sheet.len(),
+                0,
+                0,
+                0,
             )
         }
         2 => {
             put_phrase(
                 buf,
                 b"the version is # and is to be 1",
-                one(version(sheet) as usize),
+                version(sheet) as usize,
+                0,
+                0,
+                0,
             )
         }
-        3 => put_phrase(
-            buf,
-            b"places # parts # steps # and each is to be 1 to 64",
-            counts(sheet),
-        ),
+        3 => put_counts(buf, sheet),
         4 => put_pairs(buf, sheet),
         5 => put_start_places(buf, sheet),
         6 => put_start_couplings(buf, sheet),
         _ => put_step(buf, sheet, number),
     }
-}
-
-fn counts(sheet: &[u8]) -> Numbers {
-    four(
-        place_count(sheet) as usize,
-        base_count(sheet) as usize,
-        transition_count(sheet) as usize,
-        0,
-    )
 }

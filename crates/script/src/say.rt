@@ -4,53 +4,51 @@ use crate::sheets::Slip;
 use io::print_decimal;
 use io::write_all;
 
-// The file's name and the line.
-fn print_head(fd: i32, name: &[u8], line: usize) -> bool {
-    let a = write_all(fd, name);
-    let b = write_all(fd, b":");
-    let c = print_decimal(fd, line as u64);
-    let d = write_all(fd, b": ");
-    a & b & c & d
-}
-
-fn print_end(fd: i32) -> bool {
-    write_all(fd, b"\n")
+// A line of up to four pieces, behind the file's name and the line of the script.
+fn print_line(fd: i32, name: &[u8], line: usize, a: &[u8], b: &[u8], c: &[u8], d: &[u8]) -> bool {
+    let mut whole = write_all(fd, name);
+    whole = write_all(fd, b":") & whole;
+    whole = print_decimal(fd, line as u64) & whole;
+    whole = write_all(fd, b": ") & whole;
+    whole = write_all(fd, a) & whole;
+    whole = write_all(fd, b) & whole;
+    whole = write_all(fd, c) & whole;
+    whole = write_all(fd, d) & whole;
+    write_all(fd, b"\n") & whole
 }
 
 pub fn print_answer(name: &[u8], line: usize, text: &[u8]) -> bool {
-    let a = print_head(1, name, line);
-    let b = write_all(1, text);
-    let c = print_end(1);
-    a & b & c
+    print_line(1, name, line, text, b"", b"", b"")
 }
 
 // An answer and the reason behind it.
 pub fn print_refused(name: &[u8], line: usize, text: &[u8], reason: &[u8]) -> bool {
-    let a = print_head(1, name, line);
-    let b = write_all(1, text);
-    let c = write_all(1, b": ");
-    let d = write_all(1, reason);
-    let e = print_end(1);
-    a & b & c & d & e
+    print_line(1, name, line, text, b": ", reason, b"")
 }
 
 pub fn print_difference(name: &[u8], line: usize, wanted: &[u8], came: &[u8]) -> bool {
-    let a = print_head(1, name, line);
-    let b = write_all(1, b"differs: expected");
-    let c = write_all(1, wanted);
-    let d = write_all(1, b", came ");
-    let e = write_all(1, came);
-    let f = print_end(1);
-    a & b & c & d & e & f
+    print_line(
+        1,
+        name,
+        line,
+        b"differs: expected",
+        wanted,
+        b", came ",
+        came,
+    )
 }
 
 // What was expected in place of a line.
 pub fn print_mistake(fd: i32, name: &[u8], line: usize, words: &[u8]) -> bool {
-    let a = print_head(fd, name, line);
-    let b = write_all(fd, b"not understood: expected ");
-    let c = write_all(fd, words);
-    let d = print_end(fd);
-    a & b & c & d
+    print_line(
+        fd,
+        name,
+        line,
+        b"not understood: expected ",
+        words,
+        b"",
+        b"",
+    )
 }
 
 // The same for a sheet's line.
@@ -122,6 +120,6 @@ pub fn print_total(
     let c = print_count(b", expectations ", expected);
     let d = print_count(b", differences ", differences);
     let e = print_count(b", mistakes ", mistakes);
-    let f = print_end(1);
+    let f = write_all(1, b"\n");
     a & b & c & d & e & f
 }

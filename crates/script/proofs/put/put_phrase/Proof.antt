@@ -8,22 +8,19 @@ use Rattle.script.proofs.put.put_phrase.Statement.{statement}
 use Rattle.script.proofs.put.put_phrase.Tie as tie
 
 abbrev Inv-loop : tie.InvT-loop
-Inv-loop buf₀ words n pos₀ k₀ i₀ buf pos k i = length buf ≡ length buf₀
+Inv-loop buf₀ words a b c d next₀ second₀ third₀ pos₀ i₀ buf next second third pos i = length buf ≡ length buf₀
 
 abbrev μ-loop : tie.MeasureT-loop
-μ-loop buf₀ words n pos₀ k₀ i₀ buf pos k i = length words - i
+μ-loop buf₀ words a b c d next₀ second₀ third₀ pos₀ i₀ buf next second third pos i = length words - i
 
 loop-holds : tie.Need-loop-holds Inv-loop μ-loop
 loop-holds c = search needs
 
-shared-slice-read-c : tie.Need-shared-slice-read-c Inv-loop μ-loop
-shared-slice-read-c c = search needs
+shared-slice-read-letter : tie.Need-shared-slice-read-letter Inv-loop μ-loop
+shared-slice-read-letter c = search needs
 
 put-letter-requires : tie.Need-put-letter-requires Inv-loop μ-loop
 put-letter-requires c κs = search needs
-
-passed-requires : tie.Need-passed-requires Inv-loop μ-loop
-passed-requires c κs = search needs
 
 add-i : tie.Need-add-i Inv-loop μ-loop
 add-i c = search needs
@@ -47,9 +44,8 @@ put-phrase-spec =
     Inv-loop
     μ-loop
     loop-holds
-    shared-slice-read-c
+    shared-slice-read-letter
     put-letter-requires
-    passed-requires
     add-i
     loop-less
     loop-again
