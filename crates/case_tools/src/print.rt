@@ -1,10 +1,6 @@
 // What the programs of cases print on standard output.
 // Numbers are decimal.
 
-pub fn print_byte(x: u8) {
-    io::print_decimal(1, x as u64);
-}
-
 pub fn print_word(x: u16) {
     io::print_decimal(1, x as u64);
 }

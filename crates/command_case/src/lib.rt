@@ -1,5 +1,4 @@
-// A session under test: the record and the tally that the command before left, how many commands were run and differed, and
-// which answers were seen where they were expected.
+// A session under test: the record and the tally that the command before left, how many commands were run and differed.
 // Each command is the customer's call with a lent tally. Its answer and key are compared with those worked out from
 // document 01; the tally has one more in one count, and a refused command hands back the very record.
 mod same;
@@ -8,7 +7,6 @@ use case_tools::bytes::one_more;
 use case_tools::print::print_run;
 use same::same_record;
 use session::Record;
-use session::StartAnswer;
 use session::command_with;
 use session_start::start;
 use session_tools::Said;
@@ -21,7 +19,6 @@ pub struct Case {
     pub tally: Tally,
     pub run: u16,
     pub differed: u16,
-    pub seen: u32,
 }
 
 // One more run, and one more that differed unless it was as expected.
@@ -30,19 +27,6 @@ pub fn counted(c: Case, same: bool) -> Case {
     next.run = one_more(c.run);
     if !same {
         next.differed = one_more(c.differed);
-    }
-    next
-}
-
-fn only(code: u8) -> u32 {
-    1u32 << (code % 32)
-}
-
-// The same for an answer of that code, which is then among those seen.
-pub fn answered(c: Case, code: u8, same: bool) -> Case {
-    let mut next = counted(c, same);
-    if same {
-        next.seen = next.seen | only(code);
     }
     next
 }
@@ -94,7 +78,7 @@ pub fn given(c: Case, sheet: &[u8], bytes: &[u8], code: u8, key: u16) -> Case {
     let met = (code_of(said_of(a, o.key)) == code) & (o.key.0 == key);
     let u = after.tally;
     let told = tally_follows(t, u, code);
-    let mut next = answered(c, code, met & (told & (kept | (FIRED <= code))));
+    let mut next = counted(c, met & (told & (kept | (FIRED <= code))));
     next.session = s;
     next.tally = u;
     next
@@ -113,7 +97,6 @@ pub fn on(r: Record) -> Case {
         tally: no_counts(),
         run: 0,
         differed: 0,
-        seen: 0,
     }
 }
 
@@ -124,17 +107,6 @@ pub fn begun(sheet: &[u8]) -> Case {
     on(r)
 }
 
-// Starting on a sheet is to be answered by a number, 0 for an accepted sheet.
-pub fn started(c: Case, sheet: &[u8], expected: u8) -> Case {
-    let first = start(sheet);
-    let a = first.answer;
-    let number = match a {
-        StartAnswer::Started => 0,
-        StartAnswer::NotStarted(n) => n,
-    };
-    counted(c, number == expected)
-}
-
 // The same counts on another record.
 pub fn with_record(c: Case, r: Record) -> Case {
     let mut next = c;
@@ -142,27 +114,7 @@ pub fn with_record(c: Case, r: Record) -> Case {
     next
 }
 
-// Whether an answer is among those seen.
-fn print_seen(seen: u32, code: u8) {
-    if (seen >> (code % 32)) % 2 == 1 {
-        io::write_all(1, b" ");
-        io::print_decimal(1, code as u64);
-    }
-}
-
-// The refusals among those seen, in their order.
-pub fn print_refusals(seen: u32) {
-    io::write_all(1, b"refusals seen:");
-    let mut code: u8 = 1;
-    while code < 30 {
-        print_seen(seen, code);
-        code += 1;
-    }
-    io::write_all(1, b"\n");
-}
-
-// How many of a group were run, and how many differed; answers which answers were seen, these and others.
-pub fn print(name: &[u8], c: Case, others: u32) -> u32 {
+// How many of a group were run, and how many differed.
+pub fn print(name: &[u8], c: Case) {
     print_run(name, c.run as u64, c.differed as u64);
-    c.seen | others
 }

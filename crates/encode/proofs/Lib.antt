@@ -1,5 +1,5 @@
--- The bytes of an accepted sheet's net are the sheet: pieces, then the whole; and laws of the writers.
+-- The bytes of an accepted sheet's net are the sheet: lists of bytes, pieces, then the whole.
+pub mod Bytes
 pub mod Covers
 pub mod Pieces
 pub mod Whole
-pub mod Picked

@@ -8,11 +8,11 @@ use mathlib.Core.List.{List, [], _∷_, _++_, map}
 use lib.Dec.{eqb, ltb}
 use lib.ListN.{length, getD, take, drop, length-take, length-drop, take-append-drop}
 use lib.Seq.{drop-drop}
-use borrow.Author.Tests.{ltb-true, ltb-false, eqb-true, lt-ltb, le-leb, not-false}
+use borrow.Author.Tests.{ltb-false, eqb-true, lt-ltb, le-leb, not-false}
 use Rattle.net.specs.Tests.{table}
 use Rattle.net.specs.Checks.{clear}
 use Rattle.net.specs.Journal.{transition}
-use Rattle.net.proofs.Tests.{and-l, and-r, or-no-l, or-no-r, all-at}
+use Rattle.net.proofs.Tests.{and-l, and-r, or-no-l, or-no-r}
 use Rattle.net.proofs.Tables.{length-table, table-cong}
 use Rattle.text.specs.Joined.{joined}
 use Rattle.format.specs.Bytes.{wordAt, headerWidth, pairWidth}
@@ -24,6 +24,7 @@ use Rattle.sheet_arcs.specs.Conditions.{wrongWidth}
 use Rattle.sheet.specs.Checks.{sheetChecks}
 use Rattle.sheet.proofs.Accepted.{head-at, at-transition}
 use Rattle.encode.specs.Encoding.{bytes, word, allBonds, arcsBytes, stretches, pairs, bytesOf}
+use Rattle.encode.proofs.Bytes.{byte-at}
 use Rattle.encode.proofs.Covers.{Covers, covers-then, covers-byte, covers-all, map-table}
 use Rattle.encode.proofs.Pieces.{two, bonds-back, arcs-back}
 
@@ -48,10 +49,10 @@ length-parts s k (suc n) = ap suc (length-parts s (k + 1) n)
 follow-here : (s : List ℕ) (at k n : ℕ) → follow s at k (suc n) ≡ true → offsetOf s k ≡ at
 follow-here s at k n h = eqb-true (offsetOf s k) at (and-l (eqb (offsetOf s k) at) (follow s (at + lengthOf s k) (k + 1) n) h)
 
-follow-next : (s : List ℕ) (at k n : ℕ) → follow s at k (suc n) ≡ true → follow s (at + lengthOf s k) (k + 1) n ≡ true
+pub follow-next : (s : List ℕ) (at k n : ℕ) → follow s at k (suc n) ≡ true → follow s (at + lengthOf s k) (k + 1) n ≡ true
 follow-next s at k n h = and-r (eqb (offsetOf s k) at) (follow s (at + lengthOf s k) (k + 1) n) h
 
-follow-le : (s : List ℕ) (at k n : ℕ) → follow s at k n ≡ true → at ≤ length s
+pub follow-le : (s : List ℕ) (at k n : ℕ) → follow s at k n ≡ true → at ≤ length s
 follow-le s at k zero h = let e : at ≡ length s = eqb-true at (length s) h in omega arith
 follow-le s at k (suc n) h = let l = follow-le s (at + lengthOf s k) (k + 1) n (follow-next s at k n h) in omega arith
 
@@ -77,13 +78,10 @@ parts-cover s at k (suc n) h =
 
 -- ---- the pairs
 
-byte : (s : List ℕ) → bytes s ≡ true → (i : ℕ) → i < length s → getD s i 0 < 256
-byte s b i l = ltb-true _ 256 (all-at (λ (x : ℕ). ltb x 256) s 0 i b l)
-
 -- a word that is read is written again
 word-covers : (s : List ℕ) (i j n : ℕ) → bytes s ≡ true → j ≡ i + 2 → j ≤ length s → n ≡ wordAt s i → Covers s i j (word n)
 word-covers s i j n b e l q =
-    let x : getD s i 0 < 256 = byte s b i (omega arith) in
+    let x = byte-at s i b in
     let lo : n % 256 ≡ getD s i 0 = omega arith in
     let hi : n / 256 ≡ getD s (i + 1) 0 = omega arith in
     rw (lo, hi) (two s i j e l)
@@ -114,7 +112,7 @@ module _ (s : List ℕ) (h : clear (sheetChecks s) ≡ true) where
   unfolding wrongVersion
   version = eqb-true (getD s 0 0) 1 (not-false _ (head-at s h 1 (omega arith)))
 
-  paired : (partsBegin s ≤ length s) × (follow s (partsBegin s) 0 (pairsOf s) ≡ true)
+  pub paired : (partsBegin s ≤ length s) × (follow s (partsBegin s) 0 (pairsOf s) ≡ true)
   unfolding wrongPairs
   paired =
       let w : wrongPairs s ≡ false = head-at s h 3 (omega arith) in
@@ -124,7 +122,7 @@ module _ (s : List ℕ) (h : clear (sheetChecks s) ≡ true) where
   unfolding wrongStartBonds
   even = eqb-true (length (partOf s 1) % 2) 0 (not-false _ (or-no-l (not (eqb (length (partOf s 1) % 2) 0)) _ (head-at s h 5 (omega arith))))
 
-  width : (k : ℕ) → k < transitionsOf s → length (transitionBytes s (transition k)) ≡ arcsWidth (transitionBytes s (transition k))
+  pub width : (k : ℕ) → k < transitionsOf s → length (transitionBytes s (transition k)) ≡ arcsWidth (transitionBytes s (transition k))
   unfolding wrongWidth
   width k l =
       let b : List ℕ = transitionBytes s (transition k) in

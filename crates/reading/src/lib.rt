@@ -25,10 +25,10 @@ struct Part {
 }
 
 // One read into a part of the room.
-fn read_some(part: &mut [u8]) -> Part
+fn read_some(part: &mut [u8], fd: i32) -> Part
     ensures { λ r. ⌜ r .n ≤ length (now (part .entry)) ⌝ }
 {
-    let got = libc::read(0, part);
+    let got = libc::read(fd, part);
     let n = io::count(got, part);
     Part {
         n: n,
@@ -37,16 +37,16 @@ fn read_some(part: &mut [u8]) -> Part
 }
 
 // One read into the room from `at` to `to`; what lies before stays. `read_to` sees to the two.
-fn read_part(room: &mut [u8], at: usize, to: usize) -> Part
+fn read_part(room: &mut [u8], at: usize, to: usize, fd: i32) -> Part
     requires { ⌜ (at ≤ to) × (to ≤ length (now room)) ⌝ }
     ensures { λ r. ⌜ (r .n ≤ to - at) × (take at (now (room .exit)) ≡ take at (now (room .entry))) ⌝ }
 {
-    read_some(&mut room[at..to])
+    read_some(&mut room[at..to], fd)
 }
 
 // Reads until the room is filled from `from` to `to`, the input ends or a read fails. What lies before stays. `read_input`
 // sees to the two.
-fn read_to(room: &mut [u8], from: usize, to: usize) -> Got
+fn read_to(room: &mut [u8], from: usize, to: usize, fd: i32) -> Got
     requires { ⌜ (from ≤ to) × (to ≤ length (now room)) ⌝ }
     ensures { λ r. ⌜
         (r .n ≤ to) × (r .full ≡ true → (r .n ≡ to) × (r .failed ≡ false))
@@ -54,7 +54,7 @@ fn read_to(room: &mut [u8], from: usize, to: usize) -> Got
 {
     let mut at = from;
     while at < to {
-        let part = read_part(room, at, to);
+        let part = read_part(room, at, to, fd);
         if part.n == 0 {
             return Got {
                 n: at,
@@ -71,6 +71,14 @@ fn read_to(room: &mut [u8], from: usize, to: usize) -> Got
     }
 }
 
+// All that a file has, or as much of it as the room holds.
+pub fn read_all(fd: i32, room: &mut [u8]) -> Got
+    ensures { λ r. ⌜ r .n ≤ length (now (room .entry)) ⌝ }
+{
+    let n = room.len();
+    read_to(room, 0, n, fd)
+}
+
 // The input: where reading stops with nothing left to ask for, it has exactly what the output looks at. `main` lends a room
 // of that length.
 pub fn read_input(room: &mut [u8]) -> Got
@@ -79,12 +87,12 @@ pub fn read_input(room: &mut [u8]) -> Got
     ensures { λ r. ⌜
         (r .full ≡ true → (r .n ≡ lookedAt (take (r .n) (now (room .exit)))) × (r .failed ≡ false)) ⌝ }
 {
-    let first = read_to(room, 0, 2);
+    let first = read_to(room, 0, 2, 0);
     if !first.full {
         return first;
     }
     let sheet_end = 2 + word_at(room, 0);
-    let second = read_to(room, 2, sheet_end);
+    let second = read_to(room, 2, sheet_end, 0);
     if !second.full {
         return second;
     }
@@ -92,5 +100,5 @@ pub fn read_input(room: &mut [u8]) -> Got
     if sheet_number(checked) != 0 {
         return second;
     }
-    read_to(room, sheet_end, sheet_end + 3 * MAX_COMMANDS)
+    read_to(room, sheet_end, sheet_end + 3 * MAX_COMMANDS, 0)
 }

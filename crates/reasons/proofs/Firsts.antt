@@ -37,6 +37,15 @@ module _ {X : Type 0} where
   pub first-none : (f : X → Bool) (n i : ℕ) (g : ℕ → X) → i ≡ n → any f (table i g) ≡ false → n ≡ firstAt f (table n g)
   first-none f n i g e h = first-past f n g (ap (λ (k : ℕ). any f (table k g)) (sym e) ∙ h)
 
+  -- the number found is no higher than the length
+  pub first-most : (f : X → Bool) (l : List X) → firstAt f l ≤ length l
+  first-most f [] = omega arith
+  first-most f (x ∷ l) = go (f x) (first-most f l)
+    where
+      go : (b : Bool) → firstAt f l ≤ length l → pick b 0 (suc (firstAt f l)) ≤ suc (length l)
+      go true h = omega arith
+      go false h = omega arith
+
   -- where one passes, the one found is on the list
   pub first-on : (f : X → Bool) (l : List X) → any f l ≡ true → firstAt f l < length l
   first-on f [] h = both false h refl

@@ -53,7 +53,7 @@ fn head_refusal(sheet: &[u8]) -> u8
 }
 
 // The first of 7 to 9 that holds of a transition; 0 where none does.
-fn transition_refusal(sheet: &[u8], t: Transition) -> u8
+pub fn transition_refusal(sheet: &[u8], t: Transition) -> u8
     ensures { λ r. ⌜ r ≡ first (transitionChecks (now (sheet .entry)) t) ⌝ }
 {
     let places = place_count(sheet);

@@ -53,7 +53,7 @@ bonds-take n b ps bs (c ∷ cs) =
 
 -- ---- the steps
 
-last : (f : Arcs → Arcs) (ts : List Arcs) (t : Arcs) → onLast f (ts ++ (t ∷ [])) ≡ ts ++ (f t ∷ [])
+pub last : (f : Arcs → Arcs) (ts : List Arcs) (t : Arcs) → onLast f (ts ++ (t ∷ [])) ≡ ts ++ (f t ∷ [])
 last f [] t = refl
 last f (u ∷ []) t = refl
 last f (u ∷ (w ∷ ts)) t = ap (λ (l : List Arcs). u ∷ l) (last f (w ∷ ts) t)

@@ -16,7 +16,7 @@ use Rattle.sheet_text.specs.Lines.{lineOf}
 use Rattle.sheet_text.specs.Reading.{none, onLast, nothing, isPlaces, admits, added, readFrom, readText}
 use Rattle.sheet_text.specs.declared.Line.{Line}
 use Rattle.sheet_text.specs.declared.Line.the-variants.{Blank, Places, Part, Coupled, Step, Move, Before, After, Wrong}
-use Rattle.sheet_text.specs.Counts.{admitsBy, counts, countsAfter, mistakeIn}
+use Rattle.sheet_text.specs.Counts.{admitsBy, counts, countsAfter, atLine, mistakeIn}
 use Rattle.sheet_text.specs.declared.Counts.{Counts}
 use Rattle.sheet_text.proofs.FirstLine.{line-none, line-some}
 use Rattle.lexing.specs.Found.{Reaches}
@@ -31,7 +31,7 @@ none-length (t ∷ ts) = sym (ne-eqb (suc (length ts)) 0 (λ e. omega arith))
 
 admits-by : (told : Bool) (net : Net) (l : Line) → admits told net l ≡ admitsBy told (net .bases) (length (net .transitions)) l
 admits-by told net Blank = refl
-admits-by told net (Places n) = refl
+admits-by told net (Places n) = ap (λ (b : Bool). not told && b) (none-length (net .transitions))
 admits-by told net (Part p x) = ap (λ (b : Bool). eqb p (net .bases) && b) (none-length (net .transitions))
 admits-by told net (Coupled p q) = none-length (net .transitions)
 admits-by told net (Step k) = refl
@@ -40,7 +40,7 @@ admits-by told net (Before p q) = ap not (none-length (net .transitions))
 admits-by told net (After p q) = ap not (none-length (net .transitions))
 admits-by told net Wrong = refl
 
-last-length : (f : Arcs → Arcs) (ts : List Arcs) → length (onLast f ts) ≡ length ts
+pub last-length : (f : Arcs → Arcs) (ts : List Arcs) → length (onLast f ts) ≡ length ts
 last-length f [] = refl
 last-length f (t ∷ []) = refl
 last-length f (t ∷ (u ∷ ts)) = ap suc (last-length f (u ∷ ts))
@@ -94,7 +94,7 @@ module _ (s : List ℕ) (a k : ℕ) (told : Bool) (parts steps : ℕ) (r : Rest 
     same-line : readFrom k told (r .net) (l ∷ map lineOf (map (row 8) xs)) ≡ readText s
     same-line = ap (λ (m : Line). readFrom k told (r .net) (m ∷ map lineOf (map (row 8) xs))) d ∙ ap (λ (ls : List (List ℕ)). readFrom k told (r .net) (map lineOf (map (row 8) ls))) (sym e) ∙ r .same
 
-    pub rest-wrong : admitsBy told parts steps l ≡ false → k ≡ mistakeIn (readText s)
+    pub rest-wrong : admitsBy told parts steps l ≡ false → atLine k l ≡ mistakeIn (readText s)
     rest-wrong f = (let g : admits told (r .net) l ≡ false = admits-rest l ∙ f in rw g) ∙ ap mistakeIn same-line
 
     module _ (f : admitsBy told parts steps l ≡ true) where
@@ -109,16 +109,16 @@ module _ (s : List ℕ) (a k : ℕ) (told : Bool) (parts steps : ℕ) (r : Rest 
         same = rw (add-one k, ← q, told-after told parts steps l) same-on;
       }
 
-  pub rest-last : (x : List ℕ) (l : Line) → linesOf (drop a s) ≡ x ∷ [] → l ≡ lineOf (row 8 x) → admitsBy told parts steps l ≡ true → 0 ≡ mistakeIn (readText s)
+  pub rest-last : (x : List ℕ) (l : Line) → linesOf (drop a s) ≡ x ∷ [] → l ≡ lineOf (row 8 x) → admitsBy told parts steps l ≡ true → atLine 0 Blank ≡ mistakeIn (readText s)
   rest-last x l e d f = ap mistakeIn (same-on x [] l e d f)
 
-  pub rest-end : length s ≤ a → 0 ≡ mistakeIn (readText s)
+  pub rest-end : length s ≤ a → atLine 0 Blank ≡ mistakeIn (readText s)
   rest-end h = rest-last [] (lineOf (row 8 [])) (line-none s a h) refl (blank-by)
     where
       blank-by : admitsBy told parts steps (lineOf (row 8 [])) ≡ true
       blank-by = rw blank
 
-  pub rest-refused : (b : ℕ) → Reaches s a InLine b → (l : Line) → l ≡ lineOf (row 8 (slice a b s)) → admitsBy told parts steps l ≡ false → k ≡ mistakeIn (readText s)
+  pub rest-refused : (b : ℕ) → Reaches s a InLine b → (l : Line) → l ≡ lineOf (row 8 (slice a b s)) → admitsBy told parts steps l ≡ false → atLine k l ≡ mistakeIn (readText s)
   rest-refused b h l d f = let (xs, e) = line-some s a b h in rest-wrong (slice a b s) xs l e d f
 
 -- one part and one step more at most

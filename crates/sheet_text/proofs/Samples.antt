@@ -10,6 +10,7 @@ use Rattle.text.specs.Decimal.{decimal}
 use Rattle.lexing.specs.Tokens.{nextOf, linesOf}
 use Rattle.lexing.specs.Printed.{textOf}
 use Rattle.encode.specs.Encoding.{bytesOf}
+use Rattle.sheet_text.specs.declared.Line.the-variants.{Places, Step, Wrong}
 use Rattle.sheet_text.specs.Lines.{lineOf, stepLineOf}
 use Rattle.sheet_text.specs.Reading.{understood, mistake, readText, netText}
 
@@ -28,58 +29,63 @@ textA = refl
 -- ---- the line of the first mistake
 
 -- a word that is not known, a step out of its turn
-pub unknown-word : readText (ascii "places 2\npart 0 at 0\nparts 1 at 0\n") ≡ mistake 3
+pub unknown-word : readText (ascii "places 2\npart 0 at 0\nparts 1 at 0\n") ≡ mistake 3 Wrong
 unfolding readText linesOf nextOf lineOf stepLineOf
 unknown-word = refl
 
-pub out-of-turn : readText (ascii "places 2\npart 0 at 0\nstep 1\n") ≡ mistake 3
+pub out-of-turn : readText (ascii "places 2\npart 0 at 0\nstep 1\n") ≡ mistake 3 (Step 1)
 unfolding readText linesOf nextOf lineOf stepLineOf
 out-of-turn = refl
 
 -- a word and a number with no blank between them
-pub word-runs-on : readText (ascii "places 2\npart0 at 0\n") ≡ mistake 2
+pub word-runs-on : readText (ascii "places 2\npart0 at 0\n") ≡ mistake 2 Wrong
 unfolding readText linesOf nextOf lineOf stepLineOf
 word-runs-on = refl
 
-pub number-runs-on : readText (ascii "places 2\npart 0at 0\n") ≡ mistake 2
+pub number-runs-on : readText (ascii "places 2\npart 0at 0\n") ≡ mistake 2 Wrong
 unfolding readText linesOf nextOf lineOf stepLineOf
 number-runs-on = refl
 
 -- `places` given twice, also behind `places 0`
-pub places-again : readText (ascii "places 2\npart 0 at 0\nplaces 2\n") ≡ mistake 3
+pub places-again : readText (ascii "places 2\npart 0 at 0\nplaces 2\n") ≡ mistake 3 (Places 2)
 unfolding readText linesOf nextOf lineOf stepLineOf
 places-again = refl
 
-pub places-after-none : readText (ascii "places 0\nplaces 2\n") ≡ mistake 2
+pub places-after-none : readText (ascii "places 0\nplaces 2\n") ≡ mistake 2 (Places 2)
 unfolding readText linesOf nextOf lineOf stepLineOf
 places-after-none = refl
 
+-- `places` behind a step
+pub places-late : readText (ascii "part 0 at 0\nstep 0\nplaces 2\n") ≡ mistake 3 (Places 2)
+unfolding readText linesOf nextOf lineOf stepLineOf
+places-late = refl
+
 -- a sign, a hyphen with a blank beside it, a hyphen behind a word, a comma
-pub sign : readText (ascii "places 2\npart 0 at -1\n") ≡ mistake 2
+pub sign : readText (ascii "places 2\npart 0 at -1\n") ≡ mistake 2 Wrong
 unfolding readText linesOf nextOf lineOf stepLineOf
 sign = refl
 
-pub loose-hyphen : readText (ascii "places 2\ncoupled 2 -3\n") ≡ mistake 2
+pub loose-hyphen : readText (ascii "places 2\ncoupled 2 -3\n") ≡ mistake 2 Wrong
 unfolding readText linesOf nextOf lineOf stepLineOf
 loose-hyphen = refl
 
-pub hyphen-behind-word : readText (ascii "places 2\ncoupled-2-3\n") ≡ mistake 2
+pub hyphen-behind-word : readText (ascii "places 2\ncoupled-2-3\n") ≡ mistake 2 Wrong
 unfolding readText linesOf nextOf lineOf stepLineOf
 hyphen-behind-word = refl
 
-pub comma : readText (ascii "places 2\ncoupled 2,3\n") ≡ mistake 2
+pub comma : readText (ascii "places 2\ncoupled 2,3\n") ≡ mistake 2 Wrong
 unfolding readText linesOf nextOf lineOf stepLineOf
 comma = refl
 
 -- a number that is no byte, one that 16 bits do not hold, one that 64 bits do not hold
-pub no-byte : readText (ascii "places 256\n") ≡ mistake 1
+pub no-byte : readText (ascii "places 256\n") ≡ mistake 1 Wrong
 unfolding readText linesOf nextOf lineOf stepLineOf
 no-byte = refl
 
-pub no-word : readText (ascii "places 65537\n") ≡ mistake 1
+pub no-word : readText (ascii "places 65537\n") ≡ mistake 1 Wrong
 unfolding readText linesOf nextOf lineOf stepLineOf
 no-word = refl
 
-pub no-number : readText (ascii "places 18446744073709551617\n") ≡ mistake 1
+pub no-number : readText (ascii "places 18446744073709551617\n") ≡ mistake 1 Wrong
 unfolding readText linesOf nextOf lineOf stepLineOf
 no-number = refl

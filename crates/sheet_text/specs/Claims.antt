@@ -14,7 +14,7 @@ sheetText s = netText (netOf s)
 -- the sheet that a text gives; none where it is not understood
 abbrev pub sheetOf : Reading → List ℕ
 sheetOf (understood net) = bytesOf net
-sheetOf (mistake k) = []
+sheetOf (mistake k l) = []
 
 -- Reading what was printed gives the net back, and so the sheet's bytes.
 pub record ReadBack (s : List ℕ) : Type 0 where

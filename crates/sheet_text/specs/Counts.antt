@@ -7,11 +7,12 @@ use Rattle.sheet_text.specs.Reading.{Reading, understood, mistake}
 use Rattle.sheet_text.specs.declared.Line.{Line}
 use Rattle.sheet_text.specs.declared.Line.the-variants.{Blank, Places, Part, Coupled, Step, Move, Before, After, Wrong}
 use Rattle.sheet_text.specs.declared.Counts.{Counts}
+use Rattle.sheet_text.specs.declared.Mistake.{Mistake}
 
 -- as `admits` of Reading, by the three alone
 abbrev pub admitsBy : Bool → ℕ → ℕ → Line → Bool
 admitsBy told parts steps Blank = true
-admitsBy told parts steps (Places n) = not told
+admitsBy told parts steps (Places n) = not told && eqb steps 0
 admitsBy told parts steps (Part p x) = eqb p parts && eqb steps 0
 admitsBy told parts steps (Coupled p q) = eqb steps 0
 admitsBy told parts steps (Step k) = eqb k steps
@@ -34,7 +35,11 @@ countsAfter told parts steps (Before p q) = counts told parts steps
 countsAfter told parts steps (After p q) = counts told parts steps
 countsAfter told parts steps Wrong = counts told parts steps
 
--- the line of the first mistake; 0 where a text is understood
-abbrev pub mistakeIn : Reading → ℕ
-mistakeIn (understood net) = 0
-mistakeIn (mistake k) = k
+-- the number of a line, and what the line is
+abbrev pub atLine : ℕ → Line → Mistake
+atLine k l = record { line = k; what = l }
+
+-- the first mistake; 0 and `Blank` where a text is understood
+abbrev pub mistakeIn : Reading → Mistake
+mistakeIn (understood net) = atLine 0 Blank
+mistakeIn (mistake k l) = atLine k l

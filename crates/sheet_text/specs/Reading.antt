@@ -1,4 +1,4 @@
--- The net that a text describes, or the number of the first line that cannot stand where it does; and the text of a net.
+-- The net that a text describes, or the first line that cannot stand where it does, and its number; and the text of a net.
 -- Definitions only.
 use mathlib.Core.Bool.{Bool, true, false, not, _&&_, _||_}
 use Prim.Native.Nat.{ℕ, suc}
@@ -51,11 +51,11 @@ isPlaces (After p q) = false
 isPlaces Wrong = false
 
 -- ---- may a line stand here: `places` once, whatever its number; parts and steps in the order of their numbers, without a
--- gap; the start before the steps; what a step does behind its `step`. `told`: `places` was given
+-- gap; `places` and the start before the steps; what a step does behind its `step`. `told`: `places` was given
 
 abbrev pub admits : Bool → Net → Line → Bool
 admits told net Blank = true
-admits told net (Places n) = not told
+admits told net (Places n) = not told && none (net .transitions)
 admits told net (Part p x) = eqb p (net .bases) && none (net .transitions)
 admits told net (Coupled p q) = none (net .transitions)
 admits told net (Step k) = eqb k (length (net .transitions))
@@ -77,12 +77,12 @@ added net Wrong = net
 
 pub data Reading : Type 0 where
   understood : Net → Reading
-  mistake : ℕ → Reading
+  mistake : ℕ → Line → Reading
 
 -- the lines from line k on
 abbrev pub readFrom : ℕ → Bool → Net → List Line → Reading
 readFrom k told net [] = understood net
-readFrom k told net (l ∷ ls) = pick (admits told net l) (readFrom (suc k) (isPlaces l || told) (added net l) ls) (mistake k)
+readFrom k told net (l ∷ ls) = pick (admits told net l) (readFrom (suc k) (isPlaces l || told) (added net l) ls) (mistake k l)
 
 -- a line is looked at as far as this item; no form has so many
 abbrev pub maxItems : ℕ

@@ -1,7 +1,7 @@
 // A sheet as text: its lines, and the first that cannot stand where it does. specs/Lines has the words, specs/Reading the net
 // that the lines say.
 ghost use mathlib.Core.Path.{_≡_};
-ghost use mathlib.Core.Bool.{_&&_};
+ghost use mathlib.Core.Bool.{not, _&&_};
 ghost use Prim.Native.Nat.{_<_, _≤_};
 ghost use lib.Dec.{eqb};
 ghost use lib.ListN.{length, drop};
@@ -9,7 +9,7 @@ ghost use lib.Seq.{slice};
 ghost use Rattle.lexing.specs.Tokens.{row};
 ghost use Rattle.sheet_text.specs.Lines.{lineOf, stepLineOf};
 ghost use Rattle.sheet_text.specs.Reading.{readText};
-ghost use Rattle.sheet_text.specs.Counts.{admitsBy, counts, countsAfter, mistakeIn};
+ghost use Rattle.sheet_text.specs.Counts.{admitsBy, counts, countsAfter, atLine, mistakeIn};
 use forms::has_form;
 use forms::nth_number;
 use lexing::Class;
@@ -81,6 +81,12 @@ pub fn line_of(text: &[u8], at: usize) -> Line
     step_line(text, at)
 }
 
+// The first line that cannot stand where it does: its number, from 1, and what it is. 0 and `Blank`: there is none.
+pub struct Mistake {
+    pub line: usize,
+    pub what: Line,
+}
+
 // What was read: whether `places` was given, and how many parts and steps.
 pub struct Counts {
     pub told: bool,
@@ -95,13 +101,20 @@ fn in_turn(p: u32, parts: usize, steps: usize) -> bool
     p as usize == parts && steps == 0
 }
 
+// `places` was not given, and no step came yet.
+fn first_told(told: bool, steps: usize) -> bool
+    ensures { λ r. ⌜ r ≡ (not told && eqb steps 0) ⌝ }
+{
+    !told && steps == 0
+}
+
 // A line may stand behind what was read.
 fn admitted(told: bool, parts: usize, steps: usize, l: Line) -> bool
     ensures { λ r. ⌜ r ≡ admitsBy told parts steps l ⌝ }
 {
     match l {
         Line::Blank => true,
-        Line::Places(n) => !told,
+        Line::Places(n) => first_told(told, steps),
         Line::Part(p, x) => in_turn(p, parts, steps),
         Line::Coupled(p, q) => steps == 0,
         Line::Step(k) => k as usize == steps,
@@ -142,15 +155,22 @@ fn counted(told: bool, parts: usize, steps: usize, l: Line) -> Counts
 }
 
 // The line between two positions, which the caller has found in the text.
-fn line_at(text: &[u8], at: usize, to: usize) -> Line
+pub fn line_at(text: &[u8], at: usize, to: usize) -> Line
     requires { ⌜ (at ≤ to) × (to ≤ length (now text)) ⌝ }
     ensures { λ r. ⌜ r ≡ lineOf (row 8 (slice at to (now (text .entry)))) ⌝ }
 {
     line_of(&text[at..to], 0)
 }
 
-// The number of the first line that cannot stand where it does, from 1; 0 where the text is understood.
-pub fn first_mistake(text: &[u8]) -> usize
+// A line and its number.
+fn at_line(k: usize, l: Line) -> Mistake
+    ensures { λ r. ⌜ r ≡ atLine k l ⌝ }
+{
+    Mistake { line: k, what: l }
+}
+
+// The first line that cannot stand where it does; line 0 where the text is understood.
+pub fn first_mistake(text: &[u8]) -> Mistake
     ensures { λ r. ⌜ r ≡ mistakeIn (readText (now (text .entry))) ⌝ }
 {
     let mut at = 0;
@@ -163,10 +183,10 @@ pub fn first_mistake(text: &[u8]) -> usize
         let l = line_at(text, at, to);
         let fine = admitted(told, parts, steps, l);
         if !fine {
-            return k;
+            return at_line(k, l);
         }
         if text.len() <= to {
-            return 0;
+            return at_line(0, Line::Blank);
         }
         let c = counted(told, parts, steps, l);
         told = c.told;
@@ -175,5 +195,5 @@ pub fn first_mistake(text: &[u8]) -> usize
         at = to + 1;
         k += 1;
     }
-    0
+    at_line(0, Line::Blank)
 }

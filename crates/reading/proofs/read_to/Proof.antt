@@ -12,10 +12,10 @@ use Rattle.reading.proofs.read_to.Statement.{statement}
 use Rattle.reading.proofs.read_to.Tie as tie
 
 abbrev Inv-loop : tie.InvT-loop
-Inv-loop room₀ from to at₀ room at = (from ≤ at) × (at ≤ to) × (to ≤ length room₀) × (length room ≡ length room₀) × (take from room ≡ take from room₀)
+Inv-loop room₀ from to fd at₀ room at = (from ≤ at) × (at ≤ to) × (to ≤ length room₀) × (length room ≡ length room₀) × (take from room ≡ take from room₀)
 
 abbrev μ-loop : tie.MeasureT-loop
-μ-loop room₀ from to at₀ room at = to - at
+μ-loop room₀ from to fd at₀ room at = to - at
 
 loop-holds : tie.Need-loop-holds Inv-loop μ-loop
 loop-holds c = (search needs, search needs, search needs, refl, refl)

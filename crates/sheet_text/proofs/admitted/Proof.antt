@@ -11,6 +11,9 @@ enum-told c = search needs
 enum-known-l : tie.Need-enum-known-l
 enum-known-l c = search needs
 
+first-told-requires : tie.Need-first-told-requires
+first-told-requires c κs = search needs
+
 enum-known-l-2 : tie.Need-enum-known-l-2
 enum-known-l-2 c = search needs
 
@@ -42,7 +45,7 @@ returns : tie.Need-returns
 returns c = search needs
 
 returns-2 : tie.Need-returns-2
-returns-2 c = search needs
+returns-2 c = c .first-told .ensures ∙ rw (c .before .before .l .given .1)
 
 returns-3 : tie.Need-returns-3
 returns-3 c = c .in-turn .ensures ∙ rw (c .before .before .l2 .given .1)
@@ -71,6 +74,7 @@ admitted-spec =
     (tie.spec
     enum-told
     enum-known-l
+    first-told-requires
     enum-known-l-2
     in-turn-requires
     enum-known-l-3

@@ -30,25 +30,31 @@ line-at-requires c κs = search needs
 admitted-requires : tie.Need-admitted-requires Inv-loop μ-loop
 admitted-requires c κs = search needs
 
+at-line-requires : tie.Need-at-line-requires Inv-loop μ-loop
+at-line-requires c κs = search needs
+
 returns : tie.Need-returns Inv-loop μ-loop
 returns c =
-    let ad = c .before in
-    let lp : tie.At-loop Inv-loop μ-loop = ad .before .before .before .before in
-    let st = lp .before .before in
-    let s : List ℕ = st .args .text .now in
-    let h = ad .before .before .end-of .ensures in
-    rest-refused s (lp .loop .at) (lp .loop .k) (lp .loop .told) (lp .loop .parts) (lp .loop .steps) (lp .loop .inv .4) _ h _ (ad .before .line-at .ensures)
-    (sym (ad .admitted .ensures) ∙ not-true _ (c .if1 .taken))
-
-returns-2 : tie.Need-returns-2 Inv-loop μ-loop
-returns-2 c =
     let ad = c .before .before in
     let lp : tie.At-loop Inv-loop μ-loop = ad .before .before .before .before in
     let st = lp .before .before in
     let s : List ℕ = st .args .text .now in
     let h = ad .before .before .end-of .ensures in
-    rest-last s (lp .loop .at) (lp .loop .k) (lp .loop .told) (lp .loop .parts) (lp .loop .steps) (lp .loop .inv .4) _ _
-    (line-last s (lp .loop .at) _ h (c .if2 .taken)) (ad .before .line-at .ensures) (sym (ad .admitted .ensures) ∙ not-false _ (c .before .if1 .left))
+    c .at-line .ensures ∙ rest-refused s (lp .loop .at) (lp .loop .k) (lp .loop .told) (lp .loop .parts) (lp .loop .steps) (lp .loop .inv .4) _ h _ (ad .before .line-at .ensures)
+    (sym (ad .admitted .ensures) ∙ not-true _ (c .before .if1 .taken))
+
+at-line-requires-2 : tie.Need-at-line-requires-2 Inv-loop μ-loop
+at-line-requires-2 c κs = search needs
+
+returns-2 : tie.Need-returns-2 Inv-loop μ-loop
+returns-2 c =
+    let ad = c .before .before .before in
+    let lp : tie.At-loop Inv-loop μ-loop = ad .before .before .before .before in
+    let st = lp .before .before in
+    let s : List ℕ = st .args .text .now in
+    let h = ad .before .before .end-of .ensures in
+    c .at-line2 .ensures ∙ rest-last s (lp .loop .at) (lp .loop .k) (lp .loop .told) (lp .loop .parts) (lp .loop .steps) (lp .loop .inv .4) _ _
+    (line-last s (lp .loop .at) _ h (c .before .if2 .taken)) (ad .before .line-at .ensures) (sym (ad .admitted .ensures) ∙ not-false _ (c .before .before .if1 .left))
 
 counted-requires : tie.Need-counted-requires Inv-loop μ-loop
 counted-requires c κs = search needs
@@ -77,11 +83,14 @@ loop-again c =
           (rest-on s (lp .loop .at) (lp .loop .k) (lp .loop .told) (lp .loop .parts) (lp .loop .steps) (lp .loop .inv .4) _ _ _ (line-here s (lp .loop .at) _ h (c .before .if2 .left)) (ad .before .line-at .ensures) (sym (ad .admitted .ensures) ∙ not-false _ (c .before .before .if1 .left)) _ refl),
     )
 
+at-line-requires-3 : tie.Need-at-line-requires-3 Inv-loop μ-loop
+at-line-requires-3 c κs = search needs
+
 returns-3 : tie.Need-returns-3 Inv-loop μ-loop
 returns-3 c =
-    let lp : tie.At-loop Inv-loop μ-loop = c .before in
+    let lp : tie.At-loop Inv-loop μ-loop = c .before .before in
     let st = lp .before .before in
-    rest-end (st .args .text .now) (lp .loop .at) (lp .loop .k) (lp .loop .told) (lp .loop .parts) (lp .loop .steps) (lp .loop .inv .4) (omega arith)
+    c .at-line3 .ensures ∙ rest-end (st .args .text .now) (lp .loop .at) (lp .loop .k) (lp .loop .told) (lp .loop .parts) (lp .loop .steps) (lp .loop .inv .4) (omega arith)
 
 pub first-mistake-spec : {M : Type 1} → statement M
 first-mistake-spec =
@@ -93,11 +102,14 @@ first-mistake-spec =
     end-of-requires
     line-at-requires
     admitted-requires
+    at-line-requires
     returns
+    at-line-requires-2
     returns-2
     counted-requires
     add-at
     add-k
     loop-less
     loop-again
+    at-line-requires-3
     returns-3)

@@ -1,0 +1,599 @@
+// A session at the desk: a script is gone through line by line. A sheet's lines are passed until `session`, which reads them
+// and starts; a command or a question has one answer, which the next `expect` is held against, or which is printed.
+ghost use mathlib.Core.Path.{_≡_};
+ghost use Prim.Native.Nat.{_<_, _≤_};
+ghost use lib.ListN.{length};
+use crate::answer::put_answer;
+use crate::answer::put_couplings;
+use crate::answer::put_live;
+use crate::answer::put_moved;
+use crate::answer::put_start;
+use crate::answer::put_step;
+use crate::answer::put_tally;
+use crate::answer::put_where;
+use crate::answer::refusal_of;
+use crate::form::Form;
+use crate::form::Order;
+use crate::form::Question;
+use crate::form::form_of;
+use crate::form::number;
+use crate::part::behind;
+use crate::part::between;
+use crate::part::front;
+use crate::part::without_comment;
+use crate::reason::put_reason;
+use crate::refused::put_refused;
+use crate::same::same_items;
+use crate::say::print_answer;
+use crate::say::print_difference;
+use crate::say::print_mistake;
+use crate::say::print_refused;
+use crate::say::print_slip;
+use crate::say::print_total;
+use crate::sheets::Slip;
+use crate::sheets::hex_line;
+use crate::sheets::line_end;
+use crate::sheets::one_more;
+use crate::sheets::sheet_in;
+use format::base_count;
+use lexing::next;
+use session::Record;
+use session::StartAnswer;
+use session::command_with;
+use session_start::start;
+use tally::Tally;
+use why::why;
+
+pub struct Desk {
+    // the line in hand; whether every write went through
+    pub line: usize,
+    pub whole: bool,
+    // a sheet's lines are being passed: from where in the text, and the line of `sheet`
+    pub reading: bool,
+    pub from: usize,
+    pub from_line: usize,
+    // the last sheet was not understood; a session is on, on a sheet of so many bytes
+    pub broken: bool,
+    pub started: bool,
+    pub length: usize,
+    pub record: Record,
+    pub tally: Tally,
+    // the last command, or none since the session began; the number that it was refused by
+    pub command: Command,
+    pub asked: bool,
+    pub refusal: u8,
+    // an answer that waits: its length, its line, the number of a refused sheet in it
+    pub open: usize,
+    pub open_line: usize,
+    pub open_sheet: u8,
+    pub answers: usize,
+    pub expected: usize,
+    pub differences: usize,
+    pub mistakes: usize,
+}
+
+fn no_counts() -> Tally {
+    Tally {
+        fired: 0,
+        undone: 0,
+        refused: 0,
+    }
+}
+
+// Nothing read yet. The record is that of no sheet.
+fn at_start() -> Desk {
+    let s = start(b"");
+    let r = s.session;
+    Desk {
+        line: 0,
+        whole: true,
+        reading: false,
+        from: 0,
+        from_line: 0,
+        broken: false,
+        started: false,
+        length: 0,
+        record: r,
+        tally: no_counts(),
+        command: three(0, 0),
+        asked: false,
+        refusal: 0,
+        open: 0,
+        open_line: 0,
+        open_sheet: 0,
+        answers: 0,
+        expected: 0,
+        differences: 0,
+        mistakes: 0,
+    }
+}
+
+// An answer of n bytes stands in the buffer.
+fn opened(d: Desk, n: usize) -> Desk {
+    let mut x = d;
+    x.open = n;
+    x.open_line = d.line;
+    x.open_sheet = 0;
+    x.answers = one_more(d.answers);
+    x
+}
+
+fn closed(d: Desk, written: bool) -> Desk {
+    let mut x = d;
+    x.open = 0;
+    x.whole = d.whole & written;
+    x
+}
+
+// A line that was not understood.
+fn mistake(name: &[u8], d: Desk, words: &[u8]) -> Desk {
+    let written = print_mistake(1, name, d.line, words);
+    let mut x = d;
+    x.whole = d.whole & written;
+    x.mistakes = one_more(d.mistakes);
+    x
+}
+
+// The answer that waits is printed, that of a refused sheet with its reason.
+fn tell(name: &[u8], d: Desk, sheet: &[u8], answer: &[u8]) -> Desk {
+    if d.open == 0 {
+        return d;
+    }
+    if d.open_sheet == 0 {
+        let written = print_answer(name, d.open_line, front(answer, d.open));
+        return closed(d, written);
+    }
+    let mut buf = [0u8; 256];
+    let n = put_refused(&mut buf, front(sheet, d.length), d.open_sheet);
+    let written = print_refused(name, d.open_line, front(answer, d.open), front(&buf, n));
+    closed(d, written)
+}
+
+// ---- sheets
+
+// `sheet`: its lines are passed from the next line on. The line ends at a position.
+fn begin_sheet(d: Desk, at: usize) -> Desk {
+    let mut x = d;
+    x.reading = true;
+    x.from = one_more(at);
+    x.from_line = d.line;
+    x.started = false;
+    x.broken = false;
+    x
+}
+
+// The number that a start was refused by; 0 where it was not.
+fn start_refusal(a: StartAnswer) -> u8 {
+    match a {
+        StartAnswer::Started => 0,
+        StartAnswer::NotStarted(n) => n,
+    }
+}
+
+// A fresh record on the sheet in the buffer.
+fn start_session(d: Desk, sheet: &[u8], answer: &mut [u8]) -> Desk {
+    let s = start(front(sheet, d.length));
+    let a = s.answer;
+    let r = s.session;
+    let n = put_start(answer, a, d.length);
+    let mut x = opened(d, n);
+    x.open_sheet = start_refusal(a);
+    x.started = true;
+    x.record = r;
+    x.tally = no_counts();
+    x.asked = false;
+    x
+}
+
+// The sheet's lines had a mistake: nothing is run until the next sheet.
+fn break_off(name: &[u8], d: Desk, slip: Slip, line: usize) -> Desk {
+    let written = print_slip(1, name, plus(d.from_line, line), slip);
+    let mut x = d;
+    x.whole = d.whole & written;
+    x.mistakes = one_more(d.mistakes);
+    x.broken = true;
+    x
+}
+
+// The sum where it is a number of a line.
+pub fn plus(a: usize, b: usize) -> usize {
+    if b <= usize::MAX - a { a + b } else { a }
+}
+
+// The sheet whose lines end at a position of the text is read.
+fn read_lines(name: &[u8], text: &[u8], at: usize, d: Desk, sheet: &mut [u8]) -> Desk
+    requires { ⌜ 65536 ≤ length (now sheet) ⌝ }
+{
+    let g = sheet_in(between(text, d.from, at), sheet);
+    let mut x = d;
+    x.reading = false;
+    x.length = g.n;
+    if !g.fine {
+        let slip = g.slip;
+        return break_off(name, x, slip, g.line);
+    }
+    x
+}
+
+// `session`
+fn session_line(
+    name: &[u8],
+    text: &[u8],
+    at: usize,
+    d: Desk,
+    sheet: &mut [u8],
+    answer: &mut [u8],
+) -> Desk
+    requires { ⌜ 65536 ≤ length (now sheet) ⌝ }
+{
+    if d.started {
+        return start_session(d, sheet, answer);
+    }
+    if d.broken {
+        return d;
+    }
+    if !d.reading {
+        return mistake(name, d, b"`sheet` and its lines before `session`");
+    }
+    let x = read_lines(name, text, at, d, sheet);
+    if x.broken {
+        return x;
+    }
+    start_session(x, sheet, answer)
+}
+
+// ---- commands
+
+// The bytes of a command, of which there are n, and whether they could be read. A call looks at the first three.
+pub struct Command {
+    pub fine: bool,
+    pub n: usize,
+    pub a: u8,
+    pub b: u8,
+    pub c: u8,
+    pub d: u8,
+}
+
+// Kind and number.
+fn three(kind: u8, number: u16) -> Command {
+    Command {
+        fine: true,
+        n: 3,
+        a: kind,
+        b: (number % 256) as u8,
+        c: (number / 256) as u8,
+        d: 0,
+    }
+}
+
+// Bytes in hexadecimal, at most four.
+fn spelled(line: &[u8]) -> Command {
+    let mut room = [0u8; 5];
+    let t = hex_line(line, &mut room, 0);
+    Command {
+        fine: t.fine & (t.n < 5),
+        n: t.n,
+        a: room[0],
+        b: room[1],
+        c: room[2],
+        d: room[3],
+    }
+}
+
+pub fn command_of(o: Order, line: &[u8]) -> Command {
+    match o {
+        Order::Fire(t) => three(1, t),
+        Order::UndoLast => three(2, 0),
+        Order::Undo(k) => three(3, k),
+        Order::Bytes => spelled(line),
+    }
+}
+
+// The customer's call, its record and tally kept.
+fn perform(d: Desk, c: Command, sheet: &[u8], answer: &mut [u8]) -> Desk {
+    let r = d.record;
+    let t = d.tally;
+    let bytes = [c.a, c.b, c.c, c.d];
+    let done = command_with(r, front(sheet, d.length), front(&bytes, c.n), t);
+    let o = done.outcome;
+    let a = o.answer;
+    let after = o.session;
+    let counts = done.tally;
+    let n = put_answer(answer, o);
+    let mut x = opened(d, n);
+    x.record = after;
+    x.tally = counts;
+    x.command = c;
+    x.asked = true;
+    x.refusal = refusal_of(a);
+    x
+}
+
+fn order_line(
+    name: &[u8],
+    line: &[u8],
+    d: Desk,
+    o: Order,
+    sheet: &[u8],
+    answer: &mut [u8],
+) -> Desk {
+    let c = command_of(o, line);
+    if !c.fine {
+        return mistake(
+            name,
+            d,
+            b"`hex` and at most 4 bytes, two digits 0 to 9, a to f, for each",
+        );
+    }
+    perform(d, c, sheet, answer)
+}
+
+// ---- questions
+
+// Why the last command was refused; a refused sheet has its own reason.
+fn put_why(d: Desk, sheet: &[u8], answer: &mut [u8]) -> usize {
+    let r = d.record;
+    let c = d.command;
+    let bytes = [c.a, c.b, c.c, c.d];
+    let s = front(sheet, d.length);
+    let first = start(s);
+    let refused = first.answer;
+    let n = start_refusal(refused);
+    if n != 0 {
+        return put_refused(answer, s, n);
+    }
+    if !d.asked {
+        return put_reason(answer, why::Reason::Nothing);
+    }
+    if d.refusal == 0 {
+        return put_reason(answer, why::Reason::Nothing);
+    }
+    put_reason(answer, why(r, s, front(&bytes, c.n)))
+}
+
+// Room for any sheet that the format can hold.
+const ROOM: usize = 65536;
+
+fn no_bytes() -> [u8; ROOM]
+    ensures { λ r. ⌜ 65536 ≡ length r ⌝ }
+{
+    [0; ROOM]
+}
+
+fn put_at(room: &mut [u8], at: usize, value: u8) {
+    if at < room.len() {
+        room[at] = value;
+    }
+}
+
+// The bytes of a sheet into a room of zeros.
+fn copy(from: &[u8], room: &mut [u8]) {
+    let mut i = 0;
+    while i < from.len() {
+        put_at(room, i, from[i]);
+        i += 1;
+    }
+}
+
+// The byte that one number of a line names becomes what another says.
+fn change(line: &[u8], room: &mut [u8], mine: bool, at: usize, value: usize) {
+    if mine {
+        put_at(
+            room,
+            number(line, at) as usize,
+            (number(line, value) % 256) as u8,
+        );
+    }
+}
+
+// How starting on a sheet is answered.
+fn put_started(sheet: &[u8], answer: &mut [u8]) -> usize {
+    let s = start(sheet);
+    let a = s.answer;
+    put_start(answer, a, sheet.len())
+}
+
+// The same of the first n bytes of a room.
+fn put_first(room: &[u8], n: usize, answer: &mut [u8]) -> usize {
+    put_started(front(room, n), answer)
+}
+
+// The sheet with n bytes changed.
+fn put_with(line: &[u8], n: u8, sheet: &[u8], answer: &mut [u8]) -> usize {
+    let mut room = no_bytes();
+    copy(sheet, &mut room);
+    change(line, &mut room, 0 < n, 0, 1);
+    change(line, &mut room, 1 < n, 2, 3);
+    change(line, &mut room, 2 < n, 4, 5);
+    change(line, &mut room, 3 < n, 6, 7);
+    put_first(&room, sheet.len(), answer)
+}
+
+// The sheet's first bytes, or with zeros behind it, and n of them changed.
+fn put_cut(line: &[u8], n: u8, sheet: &[u8], answer: &mut [u8]) -> usize {
+    let mut room = no_bytes();
+    copy(sheet, &mut room);
+    change(line, &mut room, 0 < n, 1, 2);
+    put_first(&room, number(line, 0) as usize, answer)
+}
+
+fn put_question(d: Desk, q: Question, line: &[u8], sheet: &[u8], answer: &mut [u8]) -> usize {
+    let r = d.record;
+    let m = r.marking;
+    let t = d.tally;
+    let s = front(sheet, d.length);
+    match q {
+        Question::Where => put_where(answer, m, base_count(s) as usize),
+        Question::Couplings => put_couplings(answer, m),
+        Question::Live => put_live(answer, r),
+        Question::Moved(k) => put_moved(answer, r, k),
+        Question::StepOf(k) => put_step(answer, r, k),
+        Question::Tally => put_tally(answer, t),
+        Question::Why => put_why(d, sheet, answer),
+        Question::With(n) => put_with(line, n, s, answer),
+        Question::Cut(n) => put_cut(line, n, s, answer),
+    }
+}
+
+// ---- lines
+
+// `expect`: the answer that waits is held against the rest of the line.
+fn expect_line(name: &[u8], line: &[u8], d: Desk, answer: &[u8]) -> Desk {
+    if d.open == 0 {
+        return mistake(name, d, b"`expect` behind a command or a question");
+    }
+    let word = next(line, 0);
+    let text = without_comment(line);
+    let wanted = behind(text, word.to);
+    let came = front(answer, d.open);
+    let mut x = d;
+    x.expected = one_more(d.expected);
+    if same_items(wanted, came) {
+        return closed(x, true);
+    }
+    x.differences = one_more(d.differences);
+    let written = print_difference(name, d.line, wanted, came);
+    closed(x, written)
+}
+
+// A line that needs a session.
+fn session_needed(name: &[u8], d: Desk) -> Desk {
+    if d.broken {
+        return d;
+    }
+    mistake(name, d, b"`sheet`, its lines and `session` first")
+}
+
+fn other_line(name: &[u8], d: Desk) -> Desk {
+    mistake(
+        name,
+        d,
+        b"`fire K`, `undo last`, `undo S`, `hex BYTES`, `where`, `couplings`, `live`, `moved S`, `step of S`, `tally`, `why`, `with AT BYTE`, `cut LENGTH`, `expect ANSWER`, `sheet` or `session`",
+    )
+}
+
+// A line of a session that has begun, or would need one.
+fn in_session(
+    name: &[u8],
+    line: &[u8],
+    d: Desk,
+    form: Form,
+    sheet: &[u8],
+    answer: &mut [u8],
+) -> Desk {
+    if !d.started {
+        return session_needed(name, d);
+    }
+    match form {
+        Form::Command(o) => order_line(name, line, d, o, sheet, answer),
+        Form::Asks(q) => {
+            let n = put_question(d, q, line, sheet, answer);
+            opened(d, n)
+        }
+        Form::Blank => d,
+        Form::Sheet => d,
+        Form::Session => d,
+        Form::Expect => d,
+        Form::Other => other_line(name, d),
+    }
+}
+
+// What a line does in a sheet, and what it does elsewhere.
+enum Turn {
+    Pass,
+    Sheet,
+    Session,
+    Expect,
+    Line,
+}
+
+fn turn_of(form: Form, reading: bool) -> Turn {
+    match form {
+        Form::Blank => Turn::Pass,
+        Form::Sheet => Turn::Sheet,
+        Form::Session => Turn::Session,
+        Form::Expect => if reading { Turn::Pass } else { Turn::Expect },
+        Form::Command(o) => if reading { Turn::Pass } else { Turn::Line },
+        Form::Asks(q) => if reading { Turn::Pass } else { Turn::Line },
+        Form::Other => if reading { Turn::Pass } else { Turn::Line },
+    }
+}
+
+// One line of a script, between two positions of it.
+fn take_line(
+    name: &[u8],
+    text: &[u8],
+    at: usize,
+    to: usize,
+    before: Desk,
+    sheet: &mut [u8],
+    answer: &mut [u8],
+) -> Desk
+    requires { ⌜ 65536 ≤ length (now sheet) ⌝ }
+{
+    let line = between(text, at, to);
+    let form = form_of(line);
+    let mut d = before;
+    d.line = one_more(before.line);
+    let turn = turn_of(form, d.reading);
+    match turn {
+        Turn::Pass => d,
+        Turn::Sheet => begin_sheet(tell(name, d, sheet, answer), to),
+        Turn::Session => session_line(name, text, at, tell(name, d, sheet, answer), sheet, answer),
+        Turn::Expect => expect_line(name, line, d, answer),
+        Turn::Line => in_session(
+            name,
+            line,
+            tell(name, d, sheet, answer),
+            form,
+            sheet,
+            answer,
+        ),
+    }
+}
+
+// Where the next line begins, behind the newline at a position before n.
+fn next_line(to: usize, n: usize) -> usize
+    requires { ⌜ to < n ⌝ }
+    ensures { λ r. ⌜ (to < r) × (r ≤ n) ⌝ }
+{
+    to + 1
+}
+
+// All lines, to the end of the text.
+fn take_lines(name: &[u8], text: &[u8], sheet: &mut [u8], answer: &mut [u8]) -> Desk
+    requires { ⌜ 65536 ≤ length (now sheet) ⌝ }
+{
+    let mut d = at_start();
+    let mut at = 0;
+    while at < text.len() {
+        let to = line_end(text, at);
+        d = take_line(name, text, at, to, d, sheet, answer);
+        if text.len() <= to {
+            return d;
+        }
+        at = next_line(to, text.len());
+    }
+    d
+}
+
+// A sheet with no `session` behind it is read too, so that its first mistake is said.
+fn finish(name: &[u8], text: &[u8], d: Desk, sheet: &mut [u8]) -> Desk
+    requires { ⌜ 65536 ≤ length (now sheet) ⌝ }
+{
+    if !d.reading {
+        return d;
+    }
+    read_lines(name, text, text.len(), d, sheet)
+}
+
+// A whole script: what it prints is printed, its totals last. Answers whether all of it was written.
+pub fn run_script(name: &[u8], text: &[u8], sheet: &mut [u8], answer: &mut [u8]) -> bool
+    requires { ⌜ 65536 ≤ length (now sheet) ⌝ }
+{
+    let d = take_lines(name, text, sheet, answer);
+    let e = tell(name, d, sheet, answer);
+    let f = finish(name, text, e, sheet);
+    let written = print_total(name, f.answers, f.expected, f.differences, f.mistakes);
+    f.whole & written
+}

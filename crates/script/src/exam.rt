@@ -1,0 +1,236 @@
+// The exam program's input from a script, and a script from such an input: two bytes with the sheet's length, the sheet, and
+// the commands, three bytes each (document 01, the exam program). Of a script, its first sheet and that sheet's first session.
+ghost use Prim.Native.Nat.{_≤_};
+ghost use lib.ListN.{length};
+use crate::desk::command_of;
+use crate::desk::plus;
+use crate::form::Form;
+use crate::form::form_of;
+use crate::part::between;
+use crate::part::front;
+use crate::put::put;
+use crate::put::put_count;
+use crate::put::put_text;
+use crate::sheets::Given;
+use crate::sheets::Slip;
+use crate::sheets::line_end;
+use crate::sheets::mistaken;
+use crate::sheets::one_more;
+use crate::sheets::sheet_in;
+use crate::sheets::sheet_of;
+use format::byte_at;
+use format::word_at;
+
+// ---- from a script
+
+// Where a script's first sheet stands, and its first session's lines. A line is before the sheet, in it, in its session, or
+// behind that.
+const BEFORE: u8 = 0;
+
+const SHEET: u8 = 1;
+
+const SESSION: u8 = 2;
+
+const BEHIND: u8 = 3;
+
+struct Place {
+    stage: u8,
+    line: usize,
+    from: usize,
+    to: usize,
+    begin: usize,
+    end: usize,
+}
+
+fn nowhere() -> Place {
+    Place {
+        stage: BEFORE,
+        line: 0,
+        from: 0,
+        to: 0,
+        begin: 0,
+        end: 0,
+    }
+}
+
+// What a line begins: a sheet, a session, or nothing.
+fn begun_by(form: Form) -> u8 {
+    match form {
+        Form::Sheet => SHEET,
+        Form::Session => SESSION,
+        _ => BEFORE,
+    }
+}
+
+// Behind a line that ends at a position, of a stage that it stays in.
+fn stretched(p: Place, to: usize) -> Place {
+    let mut x = p;
+    if p.stage == SHEET {
+        x.to = to;
+        x.begin = to;
+    }
+    if p.stage <= SESSION {
+        x.end = to;
+    }
+    x
+}
+
+// Behind line k, which begins and ends at two positions. A second sheet ends the first, and a second session too.
+fn passed(p: Place, begun: u8, k: usize, at: usize, to: usize) -> Place {
+    if begun == BEFORE {
+        return stretched(p, to);
+    }
+    let mut x = p;
+    if p.stage == BEFORE {
+        if begun == SHEET {
+            x.stage = SHEET;
+            x.line = k;
+            x.from = one_more(to);
+            x.to = to;
+            x.begin = to;
+            x.end = to;
+        }
+        return x;
+    }
+    if p.stage == SHEET {
+        if begun == SESSION {
+            x.stage = SESSION;
+            x.to = at;
+            x.begin = to;
+            x.end = to;
+            return x;
+        }
+    }
+    x.stage = BEHIND;
+    x
+}
+
+fn place_of(text: &[u8]) -> Place {
+    let mut p = nowhere();
+    let mut at = 0;
+    let mut k = 1;
+    while at < text.len() {
+        let to = line_end(text, at);
+        let form = form_of(between(text, at, to));
+        p = passed(p, begun_by(form), k, at, to);
+        if text.len() <= to {
+            return p;
+        }
+        at = to + 1;
+        k = one_more(k);
+    }
+    p
+}
+
+// A command's bytes behind what is there; nothing of any other line.
+fn put_order(line: &[u8], out: &mut [u8], n: usize) -> usize {
+    let form = form_of(line);
+    match form {
+        Form::Command(o) => {
+            let c = command_of(o, line);
+            let bytes = [c.a, c.b, c.c, c.d];
+            if c.fine {
+                put_text(out, n, front(&bytes, c.n))
+            } else {
+                n
+            }
+        }
+        _ => n,
+    }
+}
+
+fn put_orders(text: &[u8], out: &mut [u8], n: usize) -> usize {
+    let mut end = n;
+    let mut at = 0;
+    while at < text.len() {
+        let to = line_end(text, at);
+        end = put_order(between(text, at, to), out, end);
+        if text.len() <= to {
+            return end;
+        }
+        at = to + 1;
+    }
+    end
+}
+
+// A sheet with its length in front.
+fn put_sheet(out: &mut [u8], sheet: &[u8]) -> usize {
+    let n = sheet.len();
+    let a = put(out, 0, (n % 256) as u8);
+    let b = put(out, a, (n / 256 % 256) as u8);
+    put_text(out, b, sheet)
+}
+
+// The input of a script, n bytes of the buffer; or the line of the sheet's first mistake.
+pub fn put_input(text: &[u8], sheet: &mut [u8], out: &mut [u8]) -> Given
+    requires { ⌜ 65536 ≤ length (now sheet) ⌝ }
+{
+    let p = place_of(text);
+    if p.line == 0 {
+        return mistaken(Slip::NoSheet, 0);
+    }
+    let g = sheet_in(between(text, p.from, p.to), sheet);
+    if !g.fine {
+        let slip = g.slip;
+        return mistaken(slip, plus(p.line, g.line));
+    }
+    let a = put_sheet(out, front(sheet, g.n));
+    let b = put_orders(between(text, p.begin, p.end), out, a);
+    sheet_of(b)
+}
+
+// ---- from an input
+
+// The bytes of a sheet in an input.
+pub fn input_sheet<'a>(input: &'a [u8]) -> &'a [u8] {
+    between(input, 2, 2 + word_at(input, 0))
+}
+
+// A byte as two digits, with a space before it.
+fn put_byte(buf: &mut [u8], at: usize, x: u8) -> usize {
+    let a = put(buf, at, b' ');
+    let b = put(buf, a, digit(x / 16));
+    put(buf, b, digit(x % 16))
+}
+
+fn digit(x: u8) -> u8 {
+    if x < 10 {
+        48 + x
+    } else if x < 16 {
+        87 + x
+    } else {
+        b'?'
+    }
+}
+
+fn put_bytes(buf: &mut [u8], at: usize, bytes: &[u8]) -> usize {
+    let mut pos = put_text(buf, at, b"hex");
+    let mut i = 0;
+    while i < bytes.len() {
+        pos = put_byte(buf, pos, bytes[i]);
+        i += 1;
+    }
+    pos
+}
+
+// A command as a line, without its newline.
+pub fn put_command(buf: &mut [u8], bytes: &[u8]) -> usize {
+    let kind = byte_at(bytes, 0);
+    let n = word_at(bytes, 1);
+    if bytes.len() < 3 {
+        return put_bytes(buf, 0, bytes);
+    }
+    if kind == 1 {
+        return put_count(buf, 0, b"fire", n);
+    }
+    if kind == 3 {
+        return put_count(buf, 0, b"undo", n);
+    }
+    if kind != 2 {
+        return put_bytes(buf, 0, bytes);
+    }
+    if n != 0 {
+        return put_bytes(buf, 0, bytes);
+    }
+    put_text(buf, 0, b"undo last")
+}

@@ -1,0 +1,2 @@
+-- A sheet printed as text and read again: what comes of it.
+pub mod Again

@@ -1,0 +1,106 @@
+-- What 20 names: the firing and the part that the code finds in the arrays are the definition's.
+-- Assumes an accepted sheet and a sound record.
+use mathlib.Core.Path.{_≡_, sym, _∙_, ap}
+use mathlib.Core.Bool.{true}
+use mathlib.Core.List.{List}
+use Prim.Native.Nat.{ℕ, _<_, _≤_}
+use native.Mathlib.Omega.{arith}
+use lib.Dec.{eqb}
+use lib.ListN.{length, getD}
+use borrow.Author.Tests.{eq-eqb, ne-eqb}
+use Rattle.net.specs.Limits.{maxBases}
+use Rattle.net.specs.Tests.{pick, table}
+use Rattle.net.specs.Checks.{clear}
+use Rattle.net.specs.Journal.{LiveLine, kindOf, noLine, lineOf, lineKeys, keyNamed, refused, act}
+use Rattle.net.specs.declared.Key.{Key}
+use Rattle.net.proofs.Journal.{Held}
+use Rattle.net.proofs.History.{sound-held}
+use Rattle.net.proofs.Tables.{length-table, getD-table}
+use Rattle.net.proofs.Tests.{and-r}
+use Rattle.format.specs.Parts.{basesOf}
+use Rattle.format.specs.NetOf.{netOf}
+use Rattle.sheet.specs.Checks.{sheetChecks}
+use Rattle.sheet.proofs.Accepted.{promised}
+use Rattle.words.specs.Sets.{setOf}
+use Rattle.firings.specs.Lines.{firingAt, asLine}
+use Rattle.firings.specs.Search.{keysIn, indexOf}
+use Rattle.firings.specs.declared.Firing.{Firing}
+use Rattle.firings.specs.declared.Firings.{Firings}
+use Rattle.firings.proofs.Search.{keys-of-lines}
+use Rattle.sound.specs.Soundness.{formed, soundIn}
+use Rattle.session.specs.Records.{heldIn, soundFor, Sound}
+use Rattle.session.specs.declared.Record.{Record}
+use Rattle.session.proofs.Sounds.{firings-are}
+use Rattle.session.proofs.Fits.{run-flags}
+use Rattle.reasons.specs.Reasons.{inBoth, laterAt, commonAt}
+use Rattle.reasons.proofs.Firsts.{first-most}
+use Rattle.reasons.proofs.Built.{CameLater, built-holds}
+use Rattle.why.specs.Why.{laterPlace, laterPart, laterBy}
+use Rattle.why.specs.declared.Reason.the-variants as Reason
+
+-- kind 2 means the last firing, another kind the one whose key it gives
+module _ {X : Type 0} (c : List ℕ) (k : ℕ) (ek : k ≡ kindOf c) (x y : X) where
+  pub kind-last : k ≡ 2 → x ≡ pick (eqb (kindOf c) 2) x y
+  kind-last h = rw (eq-eqb (kindOf c) 2 (sym ek ∙ h))
+
+  pub kind-key : (k ≡ 2 → ⊥) → y ≡ pick (eqb (kindOf c) 2) x y
+  kind-key h = rw (ne-eqb (kindOf c) 2 (λ e. h (ek ∙ e)))
+
+-- the number of a part has one byte
+pub part-low : (a b : ℕ) → commonAt a b ≤ maxBases
+part-low a b =
+    let h = first-most (inBoth (setOf maxBases a) (setOf maxBases b)) (table maxBases (λ p. p)) in
+    let e = length-table maxBases (λ p. p) in
+    omega arith
+
+module _ (s : List ℕ) (r : Record) (a : clear (sheetChecks s) ≡ true) (h : soundFor s r ≡ true) where
+  pub journal-held : Held (netOf s) (heldIn s r)
+  unfolding soundIn
+  journal-held = sound-held (netOf s) (heldIn s r) (and-r (formed (basesOf s) (r .marking) (r .firings)) _ h)
+
+  -- the firing named came later
+  pub came : (c : List ℕ) → act (netOf s) (heldIn s r) c .answer ≡ refused 20
+      → let k = keyNamed (heldIn s r) c in CameLater (heldIn s r .lines) (lineOf k (heldIn s r .lines)) (indexOf k (lineKeys (heldIn s r .lines)))
+  unfolding netOf
+  came c = built-holds (netOf s) (heldIn s r) c (basesOf s) (promised s a .bases .1)
+      (run-flags (netOf s) (heldIn s r .lines) (netOf s .start) (heldIn s r .marking) (journal-held .run)) (journal-held .up)
+
+module _ (s : List ℕ) (r : Record) (c : List ℕ) (S : Sound s r) where
+  abbrev ls : List LiveLine
+  ls = heldIn s r .lines
+
+  abbrev named : Key
+  named = keyNamed (heldIn s r) c
+
+  abbrev f : Firings
+  f = r .firings
+
+  module _ (answer : act (netOf s) (heldIn s r) c .answer ≡ refused 20) (k : Key) (ek : k ≡ named) (i : ℕ) (ei : i ≡ indexOf k (keysIn (f .live) (f .keys))) where
+    place-is : i ≡ indexOf named (lineKeys ls)
+    place-is = ei ∙ (λ z. indexOf (ek z) (keys-of-lines (basesOf s) f z))
+
+    size : length ls ≡ f .live
+    size = length-table (f .live) _
+
+    pub live-here : i < f .live
+    live-here = let h = came s r (S .accepted) (S .sound) c answer .there in let e = place-is in let z = size in omega arith
+
+    module _ (at : ℕ) (ea : at ≡ laterAt (f .live) (f .moved) i) where
+      at-is : at ≡ laterPlace ls named
+      at-is = ea ∙ (λ z. laterAt (firings-are s r S z .live) (firings-are s r S z .moved) (place-is z))
+
+      pub later-here : at < f .live
+      later-here = let h = came s r (S .accepted) (S .sound) c answer .there in let e = at-is in let z = size in omega arith
+
+      module _ (mine other : Firing) (em : mine ≡ firingAt (f .transitions) (f .keys) (f .moved) i) (eo : other ≡ firingAt (f .transitions) (f .keys) (f .moved) at) (p : ℕ) (ep : p ≡ commonAt (mine .moved) (other .moved)) where
+        part-is : p ≡ laterPart ls named
+        part-is = ep ∙ (λ z. commonAt (em z .moved) (eo z .moved))
+            ∙ (λ z. commonAt (getD (firings-are s r S z .moved) (place-is z) 0) (getD (firings-are s r S z .moved) (at-is z) 0))
+
+        key-is : other .key ≡ getD ls (laterPlace ls named) noLine .key
+        key-is = ap (λ (x : Firing). x .key) eo
+            ∙ ap (λ (l : LiveLine). l .key) (sym (getD-table (f .live) (λ x. asLine (basesOf s) (firingAt (f .transitions) (f .keys) (f .moved) x)) at noLine later-here))
+            ∙ ap (λ (x : ℕ). getD ls x noLine .key) at-is
+
+        pub later-is : Reason.Later (other .key) p ≡ laterBy ls named
+        later-is = λ z. Reason.Later (key-is z) (part-is z)

@@ -1,0 +1,72 @@
+-- `why::why_torn` meets its contract.
+-- Assumes nothing but the laws of proofs/.
+use borrow.Author.Needs.{needs}
+use Rattle.sound.proofs.Lines.{placed-fits, placed-ends}
+use Rattle.session.specs.Records.{heldIn}
+use Rattle.session.proofs.Sounds.{placed}
+use Rattle.why.proofs.Items.{entries-low, torn-low, pair-is}
+use Rattle.why.proofs.why_torn.Statement.{statement}
+use Rattle.why.proofs.why_torn.Tie as tie
+
+-- the function's start
+abbrev start : tie.After-step-named → tie.Start
+start a = a .before .before .before
+
+step-named-requires : tie.Need-step-named-requires
+step-named-requires c κs = search needs
+
+slice-aggregate-label-in : tie.Need-slice-aggregate-label-in
+slice-aggregate-label-in c = search needs
+
+slice-aggregate-label-in-2 : tie.Need-slice-aggregate-label-in-2
+slice-aggregate-label-in-2 c = search needs
+
+label-in-requires : tie.Need-label-in-requires
+label-in-requires c κs =
+    let s : tie.Start = c .before .before .before .before .before .before .before .before .before .before in
+    let P = placed (s .args .sheet .now) (s .args .r) (s .pre .sound) in
+    let (lo, hi) = placed-fits (s .args .sheet .now) (s .args .r .marking) P in
+    ((search needs, lo, hi), placed-ends (s .args .sheet .now) (s .args .r .marking) P)
+
+first-torn-requires : tie.Need-first-torn-requires
+first-torn-requires c κs =
+    let a : tie.After-step-named = c .before .before .before .before .before .before .before .before .before in
+    let s : tie.Start = start a in
+    entries-low (s .args .sheet .now) (s .args .r) (s .args .bytes .now) (s .pre .sound) (a .step-named .result .now) (a .step-named .ensures)
+
+entry-requires : tie.Need-entry-requires
+entry-requires c κs = search needs
+
+first-partner-requires : tie.Need-first-partner-requires
+first-partner-requires c κs =
+    let a : tie.After-step-named = c .before .before .before .before .before .before .before .before .before .before .before .before in
+    let s : tie.Start = start a in
+    let m = heldIn (s .args .sheet .now) (s .args .r) .marking in
+    let parted = c .before .before .before .before .label-in .ensures .parted in
+    (torn-low (s .args .sheet .now) (s .args .r) (s .args .bytes .now) (s .pre .sound) (a .step-named .result .now) (a .step-named .ensures) (s .pre) (c .before .before .first-torn .result) (c .before .before .first-torn .ensures m parted) (c .before .entry .result) (c .before .entry .ensures), entries-low (s .args .sheet .now) (s .args .r) (s .args .bytes .now) (s .pre .sound) (a .step-named .result .now) (a .step-named .ensures))
+
+entry-requires-2 : tie.Need-entry-requires-2
+entry-requires-2 c κs = search needs
+
+returns : tie.Need-returns
+returns c =
+    let a : tie.After-step-named = c .before .before .before .before .before .before .before .before .before .before .before .before .before .before in
+    let s : tie.Start = start a in
+    let m = heldIn (s .args .sheet .now) (s .args .r) .marking in
+    let parted = c .before .before .before .before .before .before .label-in .ensures .parted in
+    pair-is (s .args .sheet .now) (s .args .r) (s .args .bytes .now) (s .pre .sound) (a .step-named .result .now) (a .step-named .ensures) (s .pre) (c .before .before .before .before .first-torn .result) (c .before .before .before .before .first-torn .ensures m parted) (c .before .before .before .entry .result) (c .before .before .before .entry .ensures)
+    (c .before .first-partner .result) (c .before .first-partner .ensures m parted) (c .entry2 .result) (c .entry2 .ensures)
+
+pub why-torn-spec : {M : Type 1} → statement M
+why-torn-spec =
+    tie.close
+    (tie.spec
+    step-named-requires
+    slice-aggregate-label-in
+    slice-aggregate-label-in-2
+    label-in-requires
+    first-torn-requires
+    entry-requires
+    first-partner-requires
+    entry-requires-2
+    returns)
