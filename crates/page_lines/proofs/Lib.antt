@@ -1,0 +1,3 @@
+-- Laws of a ruled page.
+pub mod Lines
+pub mod Answers
