@@ -68,3 +68,11 @@ fn laid(r: Rows, n: usize, number: u16, buf: &mut [u8]) -> PageAnswer
     let moved = r.moved;
     lay_page(buf, &keys, &steps, &moved, n, number)
 }
+
+// A page of the list into the lent buffer: every byte of it is said, and nothing is written where the page is refused.
+pub fn page(list: &[Firing], number: u16, buf: &mut [u8]) -> PageAnswer
+    ensures { λ a. ⌜ Paged (now (list .entry)) number (now (buf .entry)) a (now (buf .exit)) ⌝ }
+{
+    let rows = gathered(no_rows(), list);
+    laid(rows, list.len(), number, buf)
+}
