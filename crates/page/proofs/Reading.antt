@@ -7,12 +7,12 @@ use Prim.Native.Nat.{ℕ, zero, suc, _+_, _<_, _≤_}
 use native.Mathlib.Omega.{arith}
 use native.Mathlib.Nat.{add-zero}
 use lib.Dec.{ltb}
-use lib.ListN.{length, getD, set, length-set, length-replicate}
-use lib.Seq.{getD-set-same, getD-set-other}
-use borrow.Author.Tests.{lt-leb, ltb-false}
+use lib.ListN.{length, getD, set, take, length-set, length-replicate}
+use lib.Seq.{getD-set-same, getD-set-other, take-all, length-take-le}
+use borrow.Author.Tests.{lt-leb, ltb-true, ltb-false}
 use Rattle.causal.proofs.Tests.{test}
 use Rattle.net.specs.Limits.{maxBases, maxLive}
-use Rattle.net.specs.Tests.{table}
+use Rattle.net.specs.Tests.{pick, table}
 use Rattle.net.specs.Checks.{check}
 use Rattle.net.proofs.Tables.{table-more, table-cong}
 use Rattle.words.specs.Sets.{setOf, sizeOf}
@@ -21,7 +21,7 @@ use Rattle.page_lines.specs.Page.{Row, row, rowsIn, pageBytes, pageText}
 use Rattle.page_lines.specs.Answers.{isPage, writtenIf, Laid}
 use Rattle.page_lines.specs.declared.PageAnswer.{PageAnswer}
 use Rattle.page.specs.declared.Rows.{Rows}
-use Rattle.page.specs.Rows.{rowOf, noRows, withFiring, Paged}
+use Rattle.page.specs.Rows.{rowOf, noRows, withFiring, lentFirings, Paged}
 
 -- the first n rows of the arrays
 abbrev rowsTo : Rows → ℕ → List Row
@@ -97,3 +97,9 @@ paged-of fs k b a b′ r e w = (
       (λ h. rw h (unwritten (ltb (length b) pageBytes) (not (isPage (length fs) k)) (pageText (rowsTo r (length fs)) k) (pageText (map rowOf fs) k) b))
       (λ h. rw (e, rows-gathered fs (ltb-false maxLive (length fs) h))),
 )
+
+-- n, and no more than a list has, is how many its first n are
+pub cut-length : {X : Type 0} (xs : List X) (n m : ℕ) → length xs ≡ lentFirings → m ≡ pick (ltb n lentFirings) n lentFirings → m ≡ length (take n xs)
+cut-length xs n m l e = e ∙ test (ltb n lentFirings)
+    (λ h. rw h (sym (length-take-le n xs (let z = ltb-true n lentFirings h in omega arith))))
+    (λ h. rw h (sym l ∙ ap length (sym (take-all n xs (let z = ltb-false n lentFirings h in omega arith)))))

@@ -21,6 +21,10 @@ rowOf f = row (f .key .0) (f .transition) (sizeOf (setOf maxBases (f .moved)))
 abbrev pub Paged : List Firing → ℕ → List ℕ → PageAnswer → List ℕ → Type 0
 Paged fs k b a b′ = Laid (map rowOf fs) (length fs) k b a b′
 
+-- as many firings as the call by value takes; src/lib.rt has it for the code
+abbrev pub lentFirings : ℕ
+lentFirings = 257
+
 -- ---- The list in arrays
 
 unfoldable pub noRows : Rows

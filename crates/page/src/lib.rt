@@ -2,10 +2,12 @@
 // The functions that take the list are proved by walks by hand: a slice of structs is not covered.
 ghost use mathlib.Core.Path.{_≡_};
 ghost use mathlib.Core.List.{foldl, map};
-ghost use lib.ListN.{length};
+ghost use lib.Dec.{ltb};
+ghost use lib.ListN.{length, take};
+ghost use Rattle.net.specs.Tests.{pick};
 ghost use Rattle.page_lines.specs.Page.{rowsIn};
 ghost use Rattle.page_lines.specs.Answers.{Laid};
-ghost use Rattle.page.specs.Rows.{rowOf, noRows, withFiring, Paged};
+ghost use Rattle.page.specs.Rows.{rowOf, noRows, withFiring, lentFirings, Paged};
 use firings::Firing;
 use net::MAX_LIVE;
 use page_lines::PageAnswer;
@@ -75,4 +77,22 @@ pub fn page(list: &[Firing], number: u16, buf: &mut [u8]) -> PageAnswer
 {
     let rows = gathered(no_rows(), list);
     laid(rows, list.len(), number, buf)
+}
+
+// As many firings as `page_of` takes: one more than a list may have.
+const LENT: usize = 257;
+
+// n, and no more than `page_of` takes.
+fn at_most(n: usize) -> usize
+    ensures { λ r. ⌜ r ≡ pick (ltb n lentFirings) n lentFirings ⌝ }
+{
+    if n < LENT { n } else { LENT }
+}
+
+// The same by value, so that a program can make the call: the first n firings of an array are lent to `page`.
+pub fn page_of(firings: [Firing; LENT], n: usize, number: u16, buf: &mut [u8]) -> PageAnswer
+    ensures { λ a. ⌜ Paged (take n firings) number (now (buf .entry)) a (now (buf .exit)) ⌝ }
+{
+    let k = at_most(n);
+    page(&firings[..k], number, buf)
 }
