@@ -8,7 +8,7 @@ use Rattle.page_lines.proofs.put_row.Statement.{statement}
 use Rattle.page_lines.proofs.put_row.Tie as tie
 
 put-right-requires : tie.Need-put-right-requires
-put-right-requires c κs = (omega arith, fits-5 (c .before .before .args .key) (omega arith))
+put-right-requires c κs = (omega arith, omega (arith, fits-5 (c .before .before .args .key) (omega arith)))
 
 slice-aggregate-put-word : tie.Need-slice-aggregate-put-word
 slice-aggregate-put-word c = search needs
@@ -17,7 +17,7 @@ put-word-requires : tie.Need-put-word-requires
 put-word-requires c κs = omega (arith, c .before .before .before .before .put-right .ensures .1)
 
 put-right-requires-2 : tie.Need-put-right-requires-2
-put-right-requires-2 c κs = (omega (arith, c .before .before .before .before .before .before .before .before .put-right .ensures .1), fits-3 (c .before .before .before .before .before .before .before .before .before .before .before .args .step) (omega arith))
+put-right-requires-2 c κs = (omega (arith, c .before .before .before .before .before .before .before .before .put-right .ensures .1), omega (arith, fits-3 (c .before .before .before .before .before .before .before .before .before .before .before .args .step) (omega arith)))
 
 slice-aggregate-put-word-2 : tie.Need-slice-aggregate-put-word-2
 slice-aggregate-put-word-2 c = search needs
@@ -26,7 +26,7 @@ put-word-requires-2 : tie.Need-put-word-requires-2
 put-word-requires-2 c κs = omega (arith, c .before .before .before .before .put-right2 .ensures .1, c .before .before .before .before .before .before .before .before .before .before .before .before .before .put-right .ensures .1)
 
 put-right-requires-3 : tie.Need-put-right-requires-3
-put-right-requires-3 c κs = (omega (arith, c .before .before .before .before .before .before .before .before .put-right2 .ensures .1, c .before .before .before .before .before .before .before .before .before .before .before .before .before .before .before .before .before .put-right .ensures .1), fits-4 (c .before .before .before .before .before .before .before .before .before .before .before .before .before .before .before .before .before .before .before .before .args .moved) (omega arith))
+put-right-requires-3 c κs = (omega (arith, c .before .before .before .before .before .before .before .before .put-right2 .ensures .1, c .before .before .before .before .before .before .before .before .before .before .before .before .before .before .before .before .before .put-right .ensures .1), omega (arith, fits-4 (c .before .before .before .before .before .before .before .before .before .before .before .before .before .before .before .before .before .before .before .before .args .moved) (omega arith)))
 
 put-rest-requires : tie.Need-put-rest-requires
 put-rest-requires c κs = omega (arith, c .before .before .before .put-right3 .ensures .1, c .before .before .before .before .before .before .before .before .before .before .before .before .put-right2 .ensures .1, c .before .before .before .before .before .before .before .before .before .before .before .before .before .before .before .before .before .before .before .before .before .put-right .ensures .1)
