@@ -7,16 +7,17 @@ use Prim.Native.Nat.{ℕ, zero, suc, _+_, _<_, _≤_}
 use native.Mathlib.Omega.{arith}
 use native.Mathlib.Nat.{add-zero}
 use lib.Dec.{ltb}
-use lib.ListN.{length, getD, set, take, length-set, length-replicate}
+use lib.ListN.{length, getD, set, take, drop, replicate, length-set, length-replicate}
 use lib.Seq.{getD-set-same, getD-set-other, take-all, length-take-le}
 use borrow.Author.Tests.{lt-leb, ltb-true, ltb-false}
 use Rattle.causal.proofs.Tests.{test}
 use Rattle.net.specs.Limits.{maxBases, maxLive}
 use Rattle.net.specs.Tests.{pick, table}
 use Rattle.net.specs.Checks.{check}
-use Rattle.net.proofs.Tables.{table-more, table-cong}
+use Rattle.net.proofs.Tables.{table-more, table-cong, table-list}
 use Rattle.words.specs.Sets.{setOf, sizeOf}
 use Rattle.firings.specs.declared.Firing.{Firing}
+use Rattle.live_list.specs.List.{noFiring}
 use Rattle.page_lines.specs.Page.{Row, row, rowsIn, pageBytes, pageText}
 use Rattle.page_lines.specs.Answers.{isPage, writtenIf, Laid}
 use Rattle.page_lines.specs.declared.PageAnswer.{PageAnswer}
@@ -103,3 +104,11 @@ pub cut-length : {X : Type 0} (xs : List X) (n m : ℕ) → length xs ≡ lentFi
 cut-length xs n m l e = e ∙ test (ltb n lentFirings)
     (λ h. rw h (sym (length-take-le n xs (let z = ltb-true n lentFirings h in omega arith))))
     (λ h. rw h (sym l ∙ ap length (sym (take-all n xs (let z = ltb-false n lentFirings h in omega arith)))))
+
+-- a list of the full length that was copied into a longer array of zeros
+pub lent-all : (list a : List Firing) (i : ℕ) → i ≡ maxLive → length list ≡ maxLive → a ≡ table i (λ j. getD list j noFiring) ++ drop i (replicate lentFirings noFiring) → a ≡ list ++ (noFiring ∷ [])
+lent-all list a i e l q =
+    q
+    ∙ ap (λ (k : ℕ). table k (λ j. getD list j noFiring) ++ drop k (replicate lentFirings noFiring)) (e ∙ sym l)
+    ∙ ap (λ (t : List Firing). t ++ drop (length list) (replicate lentFirings noFiring)) (table-list list noFiring)
+    ∙ ap (λ (k : ℕ). list ++ drop k (replicate lentFirings noFiring)) l

@@ -1,14 +1,16 @@
 // Live firings on a ruled page (document 02, T-01): the list that is handed in, read into plain numbers, and the page of it.
 // The functions that take the list are proved by walks by hand: a slice of structs is not covered.
 ghost use mathlib.Core.Path.{_≡_};
-ghost use mathlib.Core.List.{foldl, map};
+ghost use mathlib.Core.List.{foldl, map, [], _∷_, _++_};
 ghost use lib.Dec.{ltb};
 ghost use lib.ListN.{length, take};
 ghost use Rattle.net.specs.Tests.{pick};
 ghost use Rattle.page_lines.specs.Page.{rowsIn};
 ghost use Rattle.page_lines.specs.Answers.{Laid};
+ghost use Rattle.live_list.specs.List.{noFiring};
 ghost use Rattle.page.specs.Rows.{rowOf, noRows, withFiring, lentFirings, Paged};
 use firings::Firing;
+use net::Key;
 use net::MAX_LIVE;
 use page_lines::PageAnswer;
 use page_lines::lay_page;
@@ -95,4 +97,23 @@ pub fn page_of(firings: [Firing; LENT], n: usize, number: u16, buf: &mut [u8]) -
 {
     let k = at_most(n);
     page(&firings[..k], number, buf)
+}
+
+// The list that a record gives, as `page_of` takes it.
+pub fn lendable(list: [Firing; MAX_LIVE]) -> [Firing; LENT]
+    ensures { λ r. ⌜ r ≡ list ++ (noFiring ∷ []) ⌝ }
+{
+    let zero = Firing {
+        transition: 0,
+        key: Key(0),
+        moved: 0,
+    };
+    let mut a = [zero; LENT];
+    let mut i = 0;
+    while i < MAX_LIVE {
+        let f = list[i];
+        a[i] = f;
+        i += 1;
+    }
+    a
 }
