@@ -1,14 +1,14 @@
 // Live firings on a ruled page (document 02, T-01): the list that is handed in, read into plain numbers, and the page of it.
 // The functions that take the list are proved by walks by hand: a slice of structs is not covered.
 ghost use mathlib.Core.Path.{_≡_};
-ghost use mathlib.Core.List.{foldl, map, [], _∷_, _++_};
+ghost use mathlib.Core.List.{foldl, [], _∷_, _++_};
 ghost use lib.Dec.{ltb};
-ghost use lib.ListN.{length, take};
+ghost use lib.ListN.{take};
 ghost use Rattle.net.specs.Tests.{pick};
 ghost use Rattle.page_lines.specs.Page.{rowsIn};
 ghost use Rattle.page_lines.specs.Answers.{Laid};
 ghost use Rattle.live_list.specs.List.{noFiring};
-ghost use Rattle.page.specs.Rows.{rowOf, noRows, withFiring, lentFirings, Paged};
+ghost use Rattle.page.specs.Rows.{noRows, withFiring, lentFirings, Paged};
 use firings::Firing;
 use net::Key;
 use net::MAX_LIVE;

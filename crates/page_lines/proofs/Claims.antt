@@ -1,7 +1,7 @@
 -- Proofs of what specs/Claims says of ruled pages: every line fits, and the pages hold each firing once and in order.
 -- Assumes nothing.
 use mathlib.Core.Path.{_≡_, refl, sym, ap, _∙_}
-use mathlib.Core.Bool.{Bool, true, false, _&&_}
+use mathlib.Core.Bool.{Bool, true, _&&_}
 use mathlib.Core.List.{List, [], _∷_, _++_, map}
 use Prim.Native.Nat.{ℕ, zero, suc, _+_, _-_, _*_, _/_, _<_, _≤_}
 use native.Mathlib.Omega.{arith}
@@ -9,16 +9,15 @@ use native.Mathlib.Nat.{zero-mul, suc-mul}
 use lib.Dec.{ltb, leb, eqb}
 use lib.ListN.{length, getD, length-append}
 use borrow.Author.Tests.{lt-ltb, le-ltb, ltb-true, leb-true, eqb-true}
-use Rattle.causal.proofs.Tests.{test}
 use Rattle.net.specs.Limits.{maxBases}
 use Rattle.net.specs.Tests.{pick, all, table}
 use Rattle.net.proofs.Tests.{and-l, and-r, pick-case}
-use Rattle.net.proofs.Tables.{length-table, table-cong, table-list}
+use Rattle.net.proofs.Tables.{table-cong}
 use Rattle.bonds.proofs.Fill.{table-map}
-use Rattle.text.specs.Decimal.{digits, decimal}
+use Rattle.text.specs.Decimal.{decimal}
 use Rattle.text.specs.Joined.{joined}
 use Rattle.text.proofs.Digits.{digits-length}
-use Rattle.page_lines.specs.Page.{Row, row, columns, pageRows, pageBytes, pageFrom, rightIn, rowText, rowLine, blankLine, lastLine, lineAt, pageLines, pageText}
+use Rattle.page_lines.specs.Page.{Row, row, columns, pageRows, pageFrom, rightIn, rowText, rowLine, blankLine, lastLine, lineAt, pageLines}
 use Rattle.page_lines.specs.Answers.{pagesOf}
 use Rattle.page_lines.specs.Claims.{holdable, FitsColumns, PageFits, linesTo, PagesHold}
 use Rattle.page_lines.proofs.Lines.{fits-3, fits-4, fits-5, right-length, line-length}

@@ -1,7 +1,7 @@
 -- Laws of the lines of a page: spaces, how many digits a number has, a number in its columns, and that pieces make a line.
 -- Assumes nothing.
 use mathlib.Core.Path.{_≡_, refl, sym, ap, subst, _∙_}
-use Prim.Native.Nat.{ℕ, zero, suc, _+_, _-_, _*_, _/_, _%_, _<_, _≤_}
+use Prim.Native.Nat.{ℕ, suc, _+_, _-_, _/_, _%_, _<_, _≤_}
 use native.Mathlib.Omega.{arith}
 use native.Mathlib.Nat.{add-zero, zero-add}
 use mathlib.Core.Bool.{Bool}
@@ -116,12 +116,6 @@ line-length t h =
     omega arith
 
 -- ---- The line of a firing
-
--- five, three and four digits are enough for its three numbers
-pub record Fits (r : Row) : Type 0 where
-  pub serial : length (decimal (r .serial)) ≤ 5
-  pub step : length (decimal (r .step)) ≤ 3
-  pub moved : length (decimal (r .moved)) ≤ 4
 
 pub row-pieces : (b : List ℕ) {b₁ b₂ b₃ b₄ b₅ b₆ : List ℕ} (at : ℕ) (r : Row) {k₁ k₂ k₃ k₄ k₅ k₆ : ℕ}
     → Wrote (rightIn 5 (r .serial)) at b k₁ b₁ → Wrote (32 ∷ []) k₁ b₁ k₂ b₂ → Wrote (rightIn 3 (r .step)) k₂ b₂ k₃ b₃ → Wrote (32 ∷ []) k₃ b₃ k₄ b₄ → Wrote (rightIn 4 (r .moved)) k₄ b₄ k₅ b₅

@@ -1,13 +1,13 @@
 -- What is claimed of ruled pages (02, T-01): every line fits its columns, and the pages hold each firing once and in order.
 -- Definitions only; proofs/Claims has the theorems.
 use mathlib.Core.Path.{_≡_}
-use mathlib.Core.Bool.{Bool, true, _&&_}
+use mathlib.Core.Bool.{Bool, _&&_}
 use mathlib.Core.List.{List, [], _++_, map}
 use Prim.Native.Nat.{ℕ, zero, suc, _+_, _-_, _*_, _<_, _≤_}
 use lib.Dec.{ltb, leb}
 use lib.ListN.{length, getD}
 use Rattle.net.specs.Limits.{maxBases}
-use Rattle.net.specs.Tests.{all, table}
+use Rattle.net.specs.Tests.{table}
 use Rattle.text.specs.Decimal.{decimal}
 use Rattle.page_lines.specs.Page.{Row, row, columns, pageRows, pageBytes, rowLine, blankLine, lineAt, pageLines, pageText}
 use Rattle.page_lines.specs.Answers.{pagesOf}

@@ -1,7 +1,7 @@
 -- A ruled page of live firings (02, T-01): 50 lines of 40 columns and a last line, each ended by a newline.
 -- Definitions only. Firings and the lines of a page are counted from 0 here, pages from 1 as in the paper.
 use Prim.Native.Nat.{ℕ, _+_, _-_, _*_}
-use mathlib.Core.List.{List, _∷_, [], _++_}
+use mathlib.Core.List.{List, [], _++_}
 use lib.Dec.{ltb}
 use lib.ListN.{length, getD}
 use Rattle.net.specs.Tests.{pick, table}

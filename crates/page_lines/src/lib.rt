@@ -10,7 +10,7 @@ ghost use Rattle.text.specs.Ascii.{ascii};
 ghost use Rattle.text.specs.Decimal.{decimal};
 ghost use Rattle.text.specs.Joined.{joined};
 ghost use Rattle.text.specs.Writes.{Wrote, Filled};
-ghost use Rattle.page_lines.specs.Page.{row, columns, pageBytes, pageFrom, blanks, rightIn, rowLine, lastLine, lineAt, pageLines, pageText, rowsIn};
+ghost use Rattle.page_lines.specs.Page.{row, columns, pageBytes, blanks, rightIn, rowLine, lastLine, lineAt, pageLines, pageText, rowsIn};
 ghost use Rattle.page_lines.specs.Answers.{pagesOf, pageChecks, pageNumber, Laid};
 use net::MAX_LIVE;
 use text::put_digits;

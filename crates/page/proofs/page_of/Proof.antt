@@ -29,7 +29,7 @@ use borrow.Rule.Array.Share.{room-take, shared-back}
 use borrow.Rule.Slice.Shared.{parts-cells}
 use borrow.Table.Elements.{cut-app, join-app}
 use denote.RattleType.{RattleType, owns}
-use denote.Array.{Array, arrayVal, array-vals, array-tells, array-lawful, array-makes}
+use denote.Array.{Array, array-vals, array-tells, array-lawful, array-makes}
 use denote.ArrayMemory.{array-apart, array-whole}
 use denote.Laws.{Is, shows}
 use denote.Lend.{lends-shr-slice}
