@@ -15,7 +15,7 @@ use Rattle.bonds.proofs.Fill.{count-le}
 use Rattle.words.specs.Sets.{setOf, sizeOf}
 use Rattle.firings.specs.declared.Firing.{Firing}
 use Rattle.page_lines.specs.Claims.{holdable}
-use Rattle.page_lines.proofs.Claims.{page-fits, pages-hold}
+use Rattle.page_lines.proofs.Claims.{page-fits, pages-hold, printed-whole}
 use Rattle.page.specs.Rows.{rowOf}
 use Rattle.page.specs.Claims.{inBytes, PagesClaimed}
 
@@ -44,4 +44,4 @@ rows-hold (f ∷ fs) h =
     and-i (holdable (rowOf f)) (all holdable (map rowOf fs)) (row-holds f (and-l (inBytes f) (all inBytes fs) h)) (rows-hold fs (and-r (inBytes f) (all inBytes fs) h))
 
 pub pages-claimed : (fs : List Firing) → PagesClaimed fs
-pages-claimed fs = record { fits = λ h k. page-fits (map rowOf fs) k (rows-hold fs h); holds = pages-hold (map rowOf fs) }
+pages-claimed fs = record { fits = λ h k. page-fits (map rowOf fs) k (rows-hold fs h); whole = λ h k b. printed-whole (map rowOf fs) k b (rows-hold fs h); holds = pages-hold (map rowOf fs) }

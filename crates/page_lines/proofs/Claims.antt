@@ -1,25 +1,27 @@
 -- Proofs of what specs/Claims says of ruled pages: every line fits, and the pages hold each firing once and in order.
 -- Assumes nothing.
 use mathlib.Core.Path.{_≡_, refl, sym, ap, _∙_}
-use mathlib.Core.Bool.{Bool, true, _&&_}
+use mathlib.Core.Bool.{Bool, true, not, _&&_}
 use mathlib.Core.List.{List, [], _∷_, _++_, map}
 use Prim.Native.Nat.{ℕ, zero, suc, _+_, _-_, _*_, _/_, _<_, _≤_}
 use native.Mathlib.Omega.{arith}
 use native.Mathlib.Nat.{zero-mul, suc-mul}
 use lib.Dec.{ltb, leb, eqb}
-use lib.ListN.{length, getD, length-append}
-use borrow.Author.Tests.{lt-ltb, le-ltb, ltb-true, leb-true, eqb-true}
-use Rattle.net.specs.Limits.{maxBases}
+use lib.ListN.{length, getD, drop, length-append}
+use borrow.Author.Tests.{lt-ltb, le-ltb, ltb-true, ltb-false, leb-true, eqb-true, not-true}
+use Rattle.net.specs.Limits.{maxBases, maxLive}
 use Rattle.net.specs.Tests.{pick, all, table}
+use Rattle.net.specs.Checks.{check, clear}
 use Rattle.net.proofs.Tests.{and-l, and-r, pick-case}
 use Rattle.net.proofs.Tables.{table-cong}
 use Rattle.bonds.proofs.Fill.{table-map}
 use Rattle.text.specs.Decimal.{decimal}
 use Rattle.text.specs.Joined.{joined}
 use Rattle.text.proofs.Digits.{digits-length}
-use Rattle.page_lines.specs.Page.{Row, row, columns, pageRows, pageFrom, rightIn, rowText, rowLine, blankLine, lastLine, lineAt, pageLines}
-use Rattle.page_lines.specs.Answers.{pagesOf}
-use Rattle.page_lines.specs.Claims.{holdable, FitsColumns, PageFits, linesTo, PagesHold}
+use Rattle.text.proofs.Writes.{sets-front}
+use Rattle.page_lines.specs.Page.{Row, row, columns, pageRows, pageFrom, rightIn, rowText, rowLine, blankLine, lastLine, lineAt, pageLines, pageBytes, pageText}
+use Rattle.page_lines.specs.Answers.{pagesOf, isPage, writtenIf}
+use Rattle.page_lines.specs.Claims.{holdable, FitsColumns, PageFits, linesTo, PagesHold, PrintedWhole}
 use Rattle.page_lines.proofs.Lines.{fits-3, fits-4, fits-5, right-length, line-length}
 
 -- ---- Every line fits
@@ -135,3 +137,13 @@ pages-hold rs =
     ∙ ap (λ (k : ℕ). table k (lineAt rs)) e
     ∙ table-split n m (lineAt rs)
     ∙ (λ i. list-lines rs i ++ blank-lines rs m i)
+
+-- ---- All of the buffer
+
+pub printed-whole : (rs : List Row) (k : ℕ) (b : List ℕ) → all holdable rs ≡ true → PrintedWhole rs k b
+unfolding writtenIf
+printed-whole rs k b h e =
+    let n = ltb (length b) pageBytes in
+    let r = ltb-false (length b) pageBytes (not-true n (and-l (not n) (clear (check 24 (ltb maxLive (length rs)) ∷ check 25 (not (isPage (length rs) k)) ∷ [])) e)) in
+    let w = page-fits rs k h .bytes in
+    rw e (sets-front (pageText rs k) b (omega arith) ∙ ap (λ (m : ℕ). pageText rs k ++ drop m b) w)
