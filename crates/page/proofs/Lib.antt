@@ -1,0 +1,3 @@
+-- Laws of a list of firings read into arrays.
+pub mod Reading
+pub mod Claims
