@@ -17,6 +17,8 @@ use crate::form::Order;
 use crate::form::Question;
 use crate::form::form_of;
 use crate::form::number;
+use crate::pages::put_page;
+use crate::pages::put_row;
 use crate::part::behind;
 use crate::part::between;
 use crate::part::front;
@@ -432,6 +434,8 @@ fn put_question(d: Desk, q: Question, line: &[u8], sheet: &[u8], answer: &mut [u
         Question::Why => put_why(d, sheet, answer),
         Question::With(n) => put_with(line, n, s, answer),
         Question::Cut(n) => put_cut(line, n, s, answer),
+        Question::Page(k) => put_page(answer, r, s, k),
+        Question::Row(k, i) => put_row(answer, r, s, k, i),
     }
 }
 
@@ -468,7 +472,7 @@ fn other_line(name: &[u8], d: Desk) -> Desk {
     mistake(
         name,
         d,
-        b"`fire K`, `undo last`, `undo S`, `hex BYTES`, `where`, `couplings`, `live`, `moved S`, `step of S`, `tally`, `why`, `with AT BYTE`, `cut LENGTH`, `expect ANSWER`, `sheet` or `session`",
+        b"`fire K`, `undo last`, `undo S`, `hex BYTES`, `where`, `couplings`, `live`, `moved S`, `step of S`, `tally`, `why`, `page N`, `row N I`, `with AT BYTE`, `cut LENGTH`, `expect ANSWER`, `sheet` or `session`",
     )
 }
 

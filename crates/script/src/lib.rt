@@ -6,6 +6,7 @@ mod exam;
 mod files;
 mod form;
 mod hex;
+mod pages;
 mod part;
 pub mod program;
 mod put;

@@ -1,4 +1,4 @@
--- Proofs of what specs/Claims says of the pages of a list of firing records.
+-- The pages of every list of firing records; the premise is met by the live firings of document 01's case M4 on sheet B.
 -- Assumes nothing.
 use mathlib.Core.Path.{_≡_, refl, ap}
 use mathlib.Core.Bool.{Bool, true, _&&_}
@@ -16,8 +16,10 @@ use Rattle.words.specs.Sets.{setOf, sizeOf}
 use Rattle.firings.specs.declared.Firing.{Firing}
 use Rattle.page_lines.specs.Claims.{holdable}
 use Rattle.page_lines.proofs.Claims.{page-fits, pages-hold, printed-whole}
+use Rattle.page_lines.specs.Page.{row}
 use Rattle.page.specs.Rows.{rowOf}
-use Rattle.page.specs.Claims.{inBytes, PagesClaimed}
+use Rattle.net.specs.Journal.{key}
+use Rattle.claims.specs.Pages.{inBytes, Pages}
 
 set-length : (n w : ℕ) → length (setOf n w) ≡ n
 unfolding setOf
@@ -43,5 +45,16 @@ rows-hold [] h = refl
 rows-hold (f ∷ fs) h =
     and-i (holdable (rowOf f)) (all holdable (map rowOf fs)) (row-holds f (and-l (inBytes f) (all inBytes fs) h)) (rows-hold fs (and-r (inBytes f) (all inBytes fs) h))
 
-pub pages-claimed : (fs : List Firing) → PagesClaimed fs
-pages-claimed fs = record { fits = λ h k. page-fits (map rowOf fs) k (rows-hold fs h); whole = λ h k b. printed-whole (map rowOf fs) k b (rows-hold fs h); holds = pages-hold (map rowOf fs) }
+pub pages : (fs : List Firing) → Pages fs
+pages fs = record { fits = λ h k. page-fits (map rowOf fs) k (rows-hold fs h); whole = λ h k b. printed-whole (map rowOf fs) k b (rows-hold fs h); holds = pages-hold (map rowOf fs) }
+
+-- steps 0, 1 and 2 of sheet B, with what they moved: 0, 2, 3; the same; 1
+abbrev afterM4 : List Firing
+afterM4 = record { transition = 0; key = key 1; moved = 13 } ∷ record { transition = 1; key = key 2; moved = 13 } ∷ record { transition = 2; key = key 3; moved = 2 } ∷ []
+
+pub rowsM4 : map rowOf afterM4 ≡ row 1 0 3 ∷ row 2 1 3 ∷ row 3 2 1 ∷ []
+unfolding setOf
+rowsM4 = refl
+
+pub inBytesM4 : all inBytes afterM4 ≡ true
+inBytesM4 = refl
