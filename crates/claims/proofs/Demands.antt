@@ -9,6 +9,7 @@ use Rattle.claims.proofs.Records.{soundness}
 use Rattle.claims.proofs.Sessions.{demand3}
 use Rattle.claims.proofs.Counts.{session-totals}
 use Rattle.claims.proofs.Published.{demand2-published}
+use Rattle.claims.proofs.Pages.{pages}
 
 pub demands : Demands
 demands = record {
@@ -21,4 +22,5 @@ demands = record {
   soundness = λ s accepted. let P = promised s accepted in soundness s accepted (P .rule) (P .bases .1);
   demand3 = λ s accepted. let P = promised s accepted in demand3 s accepted (P .rule) (P .bases .1);
   totals = λ s accepted. let P = promised s accepted in session-totals s accepted (P .rule) (P .bases .1);
+  pages = pages;
 }

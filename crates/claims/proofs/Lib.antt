@@ -6,5 +6,6 @@ pub mod Records
 pub mod Sessions
 pub mod Counts
 pub mod Published
+pub mod Pages
 pub mod Demands
 pub mod Instances

@@ -1,4 +1,4 @@
--- The customer's three demands and document 01's totals, as statements about `checked`, `startOf`, `commandOf` and its fold
+-- The customer's three demands, document 01's totals and document 02's requests, as statements about `checked`, `startOf`, `commandOf` and its fold
 -- over a list of commands. The contracts of check_sheet, start and the public command equate the calls with the first three.
 -- Statements only; proofs/ proves each.
 --
@@ -32,7 +32,9 @@ use Rattle.session.specs.Runs.{answered}
 use Rattle.session.specs.declared.StartAnswer.the-variants.{Started, NotStarted}
 use Rattle.session.specs.declared.Answer.the-variants.{Refused}
 use Rattle.claims.specs.Sessions.{journalAfter, sessionAfter}
+use Rattle.firings.specs.declared.Firing.{Firing}
 use Rattle.claims.specs.Published.{Demand2Published}
+use Rattle.claims.specs.Pages.{Pages}
 
 -- ---- What the definitions of firing rest on
 
@@ -141,3 +143,5 @@ pub record Demands : Type 0 where
   pub soundness : (s : List ℕ) → clear (sheetChecks s) ≡ true → Soundness s
   pub demand3 : (s : List ℕ) → clear (sheetChecks s) ≡ true → (cs : List (List ℕ)) (t : Tally) → Demand3 s cs t
   pub totals : (s : List ℕ) → clear (sheetChecks s) ≡ true → (cs : List (List ℕ)) → SessionTotals s cs
+  -- document 02's requests, each by its file
+  pub pages : (fs : List Firing) → Pages fs

@@ -1,4 +1,5 @@
 -- The demands.
 pub mod Sessions
 pub mod Published
+pub mod Pages
 pub mod Demands

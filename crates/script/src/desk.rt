@@ -1,6 +1,5 @@
 // A session at the desk: a script is gone through line by line. A sheet's lines are passed until `session`, which reads them
 // and starts; a command or a question has one answer, which the next `expect` is held against, or which is printed.
-ghost use mathlib.Core.Path.{_≡_};
 ghost use Prim.Native.Nat.{_<_, _≤_};
 ghost use lib.ListN.{length};
 use crate::answer::put_answer;
@@ -12,11 +11,16 @@ use crate::answer::put_step;
 use crate::answer::put_tally;
 use crate::answer::put_where;
 use crate::answer::refusal_of;
+use crate::changed::put_cut;
+use crate::changed::put_with;
+use crate::command::Command;
+use crate::command::command_of;
 use crate::form::Form;
 use crate::form::Order;
 use crate::form::Question;
 use crate::form::form_of;
-use crate::form::number;
+use crate::pages::put_page;
+use crate::pages::put_row;
 use crate::part::behind;
 use crate::part::between;
 use crate::part::front;
@@ -24,130 +28,27 @@ use crate::part::without_comment;
 use crate::reason::put_reason;
 use crate::refused::put_refused;
 use crate::same::same_items;
-use crate::say::print_answer;
 use crate::say::print_difference;
-use crate::say::print_mistake;
-use crate::say::print_refused;
 use crate::say::print_slip;
 use crate::say::print_total;
 use crate::sheets::Slip;
-use crate::sheets::hex_line;
 use crate::sheets::line_end;
 use crate::sheets::one_more;
 use crate::sheets::sheet_in;
+use crate::state::Desk;
+use crate::state::at_start;
+use crate::state::closed;
+use crate::state::mistake;
+use crate::state::no_counts;
+use crate::state::opened;
+use crate::state::tell;
 use format::base_count;
 use lexing::next;
-use session::Record;
 use session::StartAnswer;
 use session::command_with;
 use session_start::start;
 use tally::Tally;
 use why::why;
-
-pub struct Desk {
-    // the line in hand; whether every write went through
-    pub line: usize,
-    pub whole: bool,
-    // a sheet's lines are being passed: from where in the text, and the line of `sheet`
-    pub reading: bool,
-    pub from: usize,
-    pub from_line: usize,
-    // the last sheet was not understood; a session is on, on a sheet of so many bytes
-    pub broken: bool,
-    pub started: bool,
-    pub length: usize,
-    pub record: Record,
-    pub tally: Tally,
-    // the last command, or none since the session began; the number that it was refused by
-    pub command: Command,
-    pub asked: bool,
-    pub refusal: u8,
-    // an answer that waits: its length, its line, the number of a refused sheet in it
-    pub open: usize,
-    pub open_line: usize,
-    pub open_sheet: u8,
-    pub answers: usize,
-    pub expected: usize,
-    pub differences: usize,
-    pub mistakes: usize,
-}
-
-fn no_counts() -> Tally {
-    Tally {
-        fired: 0,
-        undone: 0,
-        refused: 0,
-    }
-}
-
-// Nothing read yet. The record is that of no sheet.
-fn at_start() -> Desk {
-    let s = start(b"");
-    let r = s.session;
-    Desk {
-        line: 0,
-        whole: true,
-        reading: false,
-        from: 0,
-        from_line: 0,
-        broken: false,
-        started: false,
-        length: 0,
-        record: r,
-        tally: no_counts(),
-        command: three(0, 0),
-        asked: false,
-        refusal: 0,
-        open: 0,
-        open_line: 0,
-        open_sheet: 0,
-        answers: 0,
-        expected: 0,
-        differences: 0,
-        mistakes: 0,
-    }
-}
-
-// An answer of n bytes stands in the buffer.
-fn opened(d: Desk, n: usize) -> Desk {
-    let mut x = d;
-    x.open = n;
-    x.open_line = d.line;
-    x.open_sheet = 0;
-    x.answers = one_more(d.answers);
-    x
-}
-
-fn closed(d: Desk, written: bool) -> Desk {
-    let mut x = d;
-    x.open = 0;
-    x.whole = d.whole & written;
-    x
-}
-
-// A line that was not understood.
-fn mistake(name: &[u8], d: Desk, words: &[u8]) -> Desk {
-    let written = print_mistake(1, name, d.line, words);
-    let mut x = d;
-    x.whole = d.whole & written;
-    x.mistakes = one_more(d.mistakes);
-    x
-}
-
-// The answer that waits is printed, that of a refused sheet with its reason.
-fn tell(name: &[u8], d: Desk, sheet: &[u8], answer: &[u8]) -> Desk {
-    if d.open == 0 {
-        return d;
-    }
-    if d.open_sheet == 0 {
-        let written = print_answer(name, d.open_line, front(answer, d.open));
-        return closed(d, written);
-    }
-    let mut buf = [0u8; 256];
-    let n = put_refused(&mut buf, front(sheet, d.length), d.open_sheet);
-    let written = print_refused(name, d.open_line, front(answer, d.open), front(&buf, n));
-    closed(d, written)
-}
 
 // ---- sheets
 
@@ -244,51 +145,6 @@ fn session_line(
 
 // ---- commands
 
-// The bytes of a command, of which there are n, and whether they could be read. A call looks at the first three.
-pub struct Command {
-    pub fine: bool,
-    pub n: usize,
-    pub a: u8,
-    pub b: u8,
-    pub c: u8,
-    pub d: u8,
-}
-
-// Kind and number.
-fn three(kind: u8, number: u16) -> Command {
-    Command {
-        fine: true,
-        n: 3,
-        a: kind,
-        b: (number % 256) as u8,
-        c: (number / 256) as u8,
-        d: 0,
-    }
-}
-
-// Bytes in hexadecimal, at most four.
-fn spelled(line: &[u8]) -> Command {
-    let mut room = [0u8; 5];
-    let t = hex_line(line, &mut room, 0);
-    Command {
-        fine: t.fine & (t.n < 5),
-        n: t.n,
-        a: room[0],
-        b: room[1],
-        c: room[2],
-        d: room[3],
-    }
-}
-
-pub fn command_of(o: Order, line: &[u8]) -> Command {
-    match o {
-        Order::Fire(t) => three(1, t),
-        Order::UndoLast => three(2, 0),
-        Order::Undo(k) => three(3, k),
-        Order::Bytes => spelled(line),
-    }
-}
-
 // The customer's call, its record and tally kept.
 fn perform(d: Desk, c: Command, sheet: &[u8], answer: &mut [u8]) -> Desk {
     let r = d.record;
@@ -351,72 +207,6 @@ fn put_why(d: Desk, sheet: &[u8], answer: &mut [u8]) -> usize {
     put_reason(answer, why(r, s, front(&bytes, c.n)))
 }
 
-// Room for any sheet that the format can hold.
-const ROOM: usize = 65536;
-
-fn no_bytes() -> [u8; ROOM]
-    ensures { λ r. ⌜ 65536 ≡ length r ⌝ }
-{
-    [0; ROOM]
-}
-
-fn put_at(room: &mut [u8], at: usize, value: u8) {
-    if at < room.len() {
-        room[at] = value;
-    }
-}
-
-// The bytes of a sheet into a room of zeros.
-fn copy(from: &[u8], room: &mut [u8]) {
-    let mut i = 0;
-    while i < from.len() {
-        put_at(room, i, from[i]);
-        i += 1;
-    }
-}
-
-// The byte that one number of a line names becomes what another says.
-fn change(line: &[u8], room: &mut [u8], mine: bool, at: usize, value: usize) {
-    if mine {
-        put_at(
-            room,
-            number(line, at) as usize,
-            (number(line, value) % 256) as u8,
-        );
-    }
-}
-
-// How starting on a sheet is answered.
-fn put_started(sheet: &[u8], answer: &mut [u8]) -> usize {
-    let s = start(sheet);
-    let a = s.answer;
-    put_start(answer, a, sheet.len())
-}
-
-// The same of the first n bytes of a room.
-fn put_first(room: &[u8], n: usize, answer: &mut [u8]) -> usize {
-    put_started(front(room, n), answer)
-}
-
-// The sheet with n bytes changed.
-fn put_with(line: &[u8], n: u8, sheet: &[u8], answer: &mut [u8]) -> usize {
-    let mut room = no_bytes();
-    copy(sheet, &mut room);
-    change(line, &mut room, 0 < n, 0, 1);
-    change(line, &mut room, 1 < n, 2, 3);
-    change(line, &mut room, 2 < n, 4, 5);
-    change(line, &mut room, 3 < n, 6, 7);
-    put_first(&room, sheet.len(), answer)
-}
-
-// The sheet's first bytes, or with zeros behind it, and n of them changed.
-fn put_cut(line: &[u8], n: u8, sheet: &[u8], answer: &mut [u8]) -> usize {
-    let mut room = no_bytes();
-    copy(sheet, &mut room);
-    change(line, &mut room, 0 < n, 1, 2);
-    put_first(&room, number(line, 0) as usize, answer)
-}
-
 fn put_question(d: Desk, q: Question, line: &[u8], sheet: &[u8], answer: &mut [u8]) -> usize {
     let r = d.record;
     let m = r.marking;
@@ -432,6 +222,8 @@ fn put_question(d: Desk, q: Question, line: &[u8], sheet: &[u8], answer: &mut [u
         Question::Why => put_why(d, sheet, answer),
         Question::With(n) => put_with(line, n, s, answer),
         Question::Cut(n) => put_cut(line, n, s, answer),
+        Question::Page(k) => put_page(answer, r, s, k),
+        Question::Row(k, i) => put_row(answer, r, s, k, i),
     }
 }
 
@@ -468,7 +260,7 @@ fn other_line(name: &[u8], d: Desk) -> Desk {
     mistake(
         name,
         d,
-        b"`fire K`, `undo last`, `undo S`, `hex BYTES`, `where`, `couplings`, `live`, `moved S`, `step of S`, `tally`, `why`, `with AT BYTE`, `cut LENGTH`, `expect ANSWER`, `sheet` or `session`",
+        b"`fire K`, `undo last`, `undo S`, `hex BYTES`, `where`, `couplings`, `live`, `moved S`, `step of S`, `tally`, `why`, `page N`, `row N I`, `with AT BYTE`, `cut LENGTH`, `expect ANSWER`, `sheet` or `session`",
     )
 }
 

@@ -2,7 +2,7 @@
 // the commands, three bytes each (document 01, the exam program). Of a script, its first sheet and that sheet's first session.
 ghost use Prim.Native.Nat.{_≤_};
 ghost use lib.ListN.{length};
-use crate::desk::command_of;
+use crate::command::command_of;
 use crate::desk::plus;
 use crate::form::Form;
 use crate::form::form_of;

@@ -11,7 +11,8 @@ pub enum Order {
     Bytes,
 }
 
-// A question: about the record, about the last refusal, and about the sheet with some bytes changed or cut short.
+// A question: about the record, about the last refusal, about the sheet with some bytes changed or cut short, and for a page of
+// the live firings or a row of it.
 pub enum Question {
     Where,
     Couplings,
@@ -22,6 +23,8 @@ pub enum Question {
     Why,
     With(u8),
     Cut(u8),
+    Page(u16),
+    Row(u16, u16),
 }
 
 pub enum Form {
@@ -73,6 +76,17 @@ fn changed_form(line: &[u8]) -> Form {
     Form::Other
 }
 
+// Pages of the live firings.
+fn page_form(line: &[u8]) -> Form {
+    if is(line, b"page 65535") {
+        return Form::Asks(Question::Page(number(line, 0)));
+    }
+    if is(line, b"row 65535 51") {
+        return Form::Asks(Question::Row(number(line, 0), number(line, 1)));
+    }
+    changed_form(line)
+}
+
 // Questions about the record.
 fn question_form(line: &[u8]) -> Form {
     if is(line, b"where") {
@@ -96,7 +110,7 @@ fn question_form(line: &[u8]) -> Form {
     if is(line, b"why") {
         return Form::Asks(Question::Why);
     }
-    changed_form(line)
+    page_form(line)
 }
 
 // Commands.

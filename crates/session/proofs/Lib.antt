@@ -11,3 +11,4 @@ pub mod Steps
 pub mod Answering
 pub mod Begins
 pub mod Answers
+pub mod Listing

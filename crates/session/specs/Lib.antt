@@ -2,4 +2,5 @@
 pub mod Records
 pub mod Commands
 pub mod Lent
+pub mod Live
 pub mod Runs

@@ -1,5 +1,7 @@
 // Commands on the session record (document 01, commands, record, tally): the record goes in by value and comes out.
 // A customer's command checks sheet and record first; the functions in place ask for a sound record.
+mod live;
+
 ghost use mathlib.Core.Path.{_≡_};
 ghost use Prim.Native.Nat.{_<_};
 ghost use Rattle.bonds.specs.Ends.{bondsIn};

@@ -4,7 +4,7 @@ use mathlib.Core.Bool.{Bool, true, not, _&&_, _||_}
 use mathlib.Core.List.{List, [], _∷_}
 use Prim.Native.Nat.{ℕ, zero, suc, _+_, _*_, _/_, _%_}
 use lib.Dec.{eqb}
-use Rattle.net.specs.Tests.{pick}
+use Rattle.net.specs.Tests.{pick, count}
 
 -- the set of the first n bits of a word, the lowest bit first
 unfoldable pub setOf : ℕ → ℕ → List Bool
@@ -27,3 +27,7 @@ abbrev pub inside : List Bool → List Bool → Bool
 inside [] n = true
 inside (a ∷ m) [] = not a && inside m []
 inside (a ∷ m) (b ∷ n) = (not a || b) && inside m n
+
+-- how many bases are in a set
+abbrev pub sizeOf : List Bool → ℕ
+sizeOf m = count (λ b. b) m

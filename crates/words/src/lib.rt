@@ -6,7 +6,7 @@ ghost use lib.ListN.{getD, set};
 ghost use mathlib.Core.Bool.{true, false};
 ghost use Rattle.net.specs.Limits.{maxBases};
 ghost use Rattle.net.specs.Journal.{common};
-ghost use Rattle.words.specs.Sets.{setOf, either, inside};
+ghost use Rattle.words.specs.Sets.{setOf, sizeOf, either, inside};
 
 // Whether two sets have a common base.
 pub fn shares(a: u64, b: u64) -> bool
@@ -51,4 +51,11 @@ pub fn union(a: u64, b: u64) -> u64
     ensures { λ r. ⌜ setOf maxBases r ≡ either (setOf maxBases a) (setOf maxBases b) ⌝ }
 {
     a | b
+}
+
+// How many bases are in the set.
+pub fn count_bases(w: u64) -> u8
+    ensures { λ r. ⌜ r ≡ sizeOf (setOf maxBases w) ⌝ }
+{
+    u64::count_ones(w) as u8
 }

@@ -1,11 +1,11 @@
--- `script::desk::copy` is safe and ends.
+-- `script::changed::copy` is safe and ends.
 -- Assumes nothing.
 use borrow.Author.Needs.{needs}
 use mathlib.Core.Path.{_≡_}
 use Prim.Native.Nat.{_-_}
 use lib.ListN.{length}
-use Rattle.script.proofs.desk.copy.Statement.{statement}
-use Rattle.script.proofs.desk.copy.Tie as tie
+use Rattle.script.proofs.changed.copy.Statement.{statement}
+use Rattle.script.proofs.changed.copy.Tie as tie
 
 abbrev Inv-loop : tie.InvT-loop
 Inv-loop from room₀ i₀ room i = length room ≡ length room₀

@@ -1,0 +1,16 @@
+-- `live_list::list_none` meets its contract.
+-- Assumes nothing but the laws of proofs/.
+use borrow.Author.Needs.{needs}
+use Rattle.live_list.specs.List.{notListed}
+use Rattle.live_list.proofs.list_none.Statement.{statement}
+use Rattle.live_list.proofs.list_none.Tie as tie
+
+no-firing-requires : tie.Need-no-firing-requires
+no-firing-requires c κs = search needs
+
+returns : tie.Need-returns
+unfolding notListed
+returns c = rw (c .no-firing .ensures)
+
+pub list-none-spec : {M : Type 1} → statement M
+list-none-spec = tie.close (tie.spec no-firing-requires returns)

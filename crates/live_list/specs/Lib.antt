@@ -1,0 +1,2 @@
+-- The live firings of a record as a list.
+pub mod List

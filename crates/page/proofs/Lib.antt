@@ -1,0 +1,2 @@
+-- Laws of a list of firings read into arrays.
+pub mod Reading

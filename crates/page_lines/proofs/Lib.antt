@@ -1,0 +1,4 @@
+-- Laws of a ruled page.
+pub mod Lines
+pub mod Answers
+pub mod Claims
