@@ -19,13 +19,21 @@ fn full(p: &[u8]) -> Case {
     c
 }
 
-// What is refused by 12 to 16 comes before 17 and 18.
+// What is refused by 12 to 16 comes before 18.
 fn blocked(c: Case, p: &[u8]) -> Case {
     let mut d = command(c, p, 1, 0, 13, 0);
     d = command(d, p, 1, 1, 14, 0);
     d = command(d, p, 1, 2, 15, 0);
+    d = command(d, p, 1, 3, 13, 0);
+    d = command(d, p, 1, 4, 13, 0);
+    d = command(d, p, 1, 5, 14, 0);
+    d = command(d, p, 1, 6, 15, 0);
     d = command(d, p, 1, 7, 16, 0);
-    command(d, p, 1, 12, 12, 0)
+    d = command(d, p, 1, 8, 13, 0);
+    d = command(d, p, 1, 9, 14, 0);
+    d = command(d, p, 1, 12, 12, 0);
+    d = command(d, p, 1, 256, 12, 0);
+    command(d, p, 1, 65535, 12, 0)
 }
 
 // The record with another serial in a live firing.
