@@ -8,7 +8,7 @@ pub fn print_word(x: u16) {
 // A name and a number, as a line.
 pub fn print_count(name: &[u8], n: u64) {
     io::write_all(1, name);
-    io::write_all(1, b" ");
+    io::write_all(1, b": ");
     io::print_decimal(1, n);
     io::write_all(1, b"\n");
 }

@@ -4,6 +4,7 @@ use crate::random::below;
 use crate::random::falls;
 use crate::random::mixed;
 use crate::random::over;
+use oracle::sets::get;
 
 pub struct Plan {
     pub places: u64,
@@ -16,42 +17,31 @@ pub struct Plan {
     pub outgoing: u64,
 }
 
-// Routes: each entry has places of its own; the entries of a transition come from one place and go to several; they go
+// Routes: 0, each entry has places of its own; the entries of a transition come from one place and go to several; they go
 // together; they go together around a ring of places; the same, each transition for two bases of its own group; every other
 // transition takes its entries from place 0 to another place, and the one after it takes the same entries back.
-pub const APART: u64 = 0;
+const FORK: u64 = 1;
 
-pub const FORK: u64 = 1;
+const TOGETHER: u64 = 2;
 
-pub const TOGETHER: u64 = 2;
+const RING: u64 = 3;
 
-pub const RING: u64 = 3;
+const GROUPS: u64 = 4;
 
-pub const GROUPS: u64 = 4;
+const SHUTTLE: u64 = 5;
 
-pub const SHUTTLE: u64 = 5;
-
-pub fn of(places: u64, bases: u64, transitions: u64, route: u64) -> Plan {
+// The plan of a row of numbers: its numbers 7 to 14.
+pub fn plan_of(row: &[u64]) -> Plan {
     Plan {
-        places: places,
-        bases: bases,
-        transitions: transitions,
-        route: route,
-        entries: 6,
-        start: 2,
-        incoming: 1,
-        outgoing: 4,
+        places: get(row, 7),
+        bases: get(row, 8),
+        transitions: get(row, 9),
+        route: get(row, 10),
+        entries: get(row, 11),
+        start: get(row, 12),
+        incoming: get(row, 13),
+        outgoing: get(row, 14),
     }
-}
-
-// The same with other chances: of an entry, a start bond, an in-bond, an out-bond.
-pub fn with(p: Plan, entries: u64, start: u64, incoming: u64, outgoing: u64) -> Plan {
-    let mut q = p;
-    q.entries = entries;
-    q.start = start;
-    q.incoming = incoming;
-    q.outgoing = outgoing;
-    q
 }
 
 // Counts by lot, up to those of the plan; every eighth seed has the plan's own.
@@ -123,20 +113,14 @@ pub fn to_of(p: Plan, seed: u64, t: u64, b: u64) -> u64 {
 
 // Where base b starts: at 0 for a fork or a ring, else by lot.
 pub fn start_of(p: Plan, seed: u64, b: u64) -> u64 {
-    if p.route == FORK {
-        return 0;
-    }
-    if RING <= p.route {
+    if (p.route == FORK) | (RING <= p.route) {
         return 0;
     }
     below(mixed(seed, b, 0, 4), p.places)
 }
 
-pub fn starts_bonded(p: Plan, seed: u64, a: u64, b: u64) -> bool {
-    if start_of(p, seed, a) != start_of(p, seed, b) {
-        return false;
-    }
-    falls(mixed(seed, a, b, 5), p.start)
+fn starts_bonded(p: Plan, seed: u64, a: u64, b: u64) -> bool {
+    (start_of(p, seed, a) == start_of(p, seed, b)) & falls(mixed(seed, a, b, 5), p.start)
 }
 
 // Whether the bond a-b falls among the out-bonds of transition t that are no in-bonds.
@@ -157,28 +141,31 @@ fn may_come(p: Plan, seed: u64, t: u64, a: u64, b: u64) -> bool {
 
 // Whether the bond a-b of two entries is an in-bond of transition t. It is an out-bond then, so that both places agree.
 fn comes(p: Plan, seed: u64, t: u64, a: u64, b: u64) -> bool {
-    if from_of(p, seed, t, a) != from_of(p, seed, t, b) {
-        return false;
-    }
-    if !may_come(p, seed, t, a, b) {
-        return false;
-    }
-    falls(mixed(seed, t, a, b % 64 + 100), p.incoming)
+    let one = from_of(p, seed, t, a) == from_of(p, seed, t, b);
+    let drawn = falls(mixed(seed, t, a, b % 64 + 100), p.incoming);
+    one & (drawn & may_come(p, seed, t, a, b))
 }
 
-// Whether the bond a-b is among the in-bonds of transition t, or among its out-bonds.
-pub fn bonded(p: Plan, seed: u64, t: u64, a: u64, b: u64, outgoing: bool) -> bool {
-    if !enters(p, seed, t, a) {
+// Which bonds: those of the start, of a transition's in-bonds, of its out-bonds.
+pub const START: u64 = 0;
+
+pub const IN: u64 = 1;
+
+pub const OUT: u64 = 2;
+
+// Whether two bases are entries of transition t with one out-place.
+fn go_together(p: Plan, seed: u64, t: u64, a: u64, b: u64) -> bool {
+    let both = enters(p, seed, t, a) & enters(p, seed, t, b);
+    both & (to_of(p, seed, t, a) == to_of(p, seed, t, b))
+}
+
+// Whether the bond a-b is among those of the start, or of transition t.
+pub fn bonded(p: Plan, seed: u64, t: u64, a: u64, b: u64, which: u64) -> bool {
+    if which == START {
+        return starts_bonded(p, seed, a, b);
+    }
+    if !go_together(p, seed, t, a, b) {
         return false;
     }
-    if !enters(p, seed, t, b) {
-        return false;
-    }
-    if to_of(p, seed, t, a) != to_of(p, seed, t, b) {
-        return false;
-    }
-    if comes(p, seed, t, a, b) {
-        return true;
-    }
-    outgoing & adds(p, seed, t, a, b)
+    comes(p, seed, t, a, b) | ((which == OUT) & adds(p, seed, t, a, b))
 }

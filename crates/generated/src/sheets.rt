@@ -1,12 +1,14 @@
 // Writes the sheet of a plan and a seed into a lent buffer (document 01, the sheet). Stores past the end do nothing: a
 // sheet that does not fit is refused by the engine, and the program counts that.
 ghost use Prim.Native.Nat.{_≤_};
+use crate::plan::IN;
+use crate::plan::OUT;
 use crate::plan::Plan;
+use crate::plan::START;
 use crate::plan::bonded;
 use crate::plan::enters;
 use crate::plan::from_of;
 use crate::plan::start_of;
-use crate::plan::starts_bonded;
 use crate::plan::to_of;
 use case_tools::bytes::put;
 
@@ -28,15 +30,19 @@ fn length_of(from: usize, to: usize) -> u64 {
     if from <= to { (to - from) as u64 } else { 0 }
 }
 
+// Two bytes, the low one first.
+fn put_word(buf: &mut [u8], at: usize, value: u64)
+    requires { ⌜ at ≤ 40000 ⌝ }
+{
+    put(buf, at, value);
+    put(buf, at + 1, value / 256);
+}
+
 // Pair k: where a stretch begins, and its length.
 fn put_pair(buf: &mut [u8], k: u64, from: usize, to: usize) {
     let at = (4 + 4 * (k % 66)) as usize;
-    let offset = from as u64;
-    let length = length_of(from, to);
-    put(buf, at, offset);
-    put(buf, at + 1, offset / 256);
-    put(buf, at + 2, length);
-    put(buf, at + 3, length / 256);
+    put_word(buf, at, from as u64);
+    put_word(buf, at + 2, length_of(from, to));
 }
 
 fn emit_entry(buf: &mut [u8], at: usize, p: Plan, seed: u64, t: u64, b: u64) -> usize {
@@ -61,51 +67,39 @@ fn emit_entries(buf: &mut [u8], at: usize, p: Plan, seed: u64, t: u64) -> usize 
     e
 }
 
-fn emit_bond(buf: &mut [u8], at: usize, a: u64, b: u64, there: bool) -> usize {
-    if there {
+// The bond of the bases i / 64 and i % 64, where there is one; the lower comes first.
+fn emit_bond(buf: &mut [u8], at: usize, p: Plan, seed: u64, t: u64, i: u64, which: u64) -> usize {
+    let a = i / 64;
+    let b = i % 64;
+    if (a < b) & ((b < p.bases) & bonded(p, seed, t, a, b, which)) {
         let e = emit(buf, at, a);
         return emit(buf, e, b);
     }
     at
 }
 
-// The bonds of base a with the bases below n after it; those before it are not written.
-fn emit_row(
-    buf: &mut [u8],
-    at: usize,
-    p: Plan,
-    seed: u64,
-    t: u64,
-    a: u64,
-    outgoing: bool,
-) -> usize {
-    let n = p.bases;
+fn emit_bonds(buf: &mut [u8], at: usize, p: Plan, seed: u64, t: u64, which: u64) -> usize {
     let mut e = at;
-    let mut b: u64 = 0;
-    while b < n {
-        e = emit_bond(buf, e, a, b, (a < b) & bonded(p, seed, t, a, b, outgoing));
-        b += 1;
+    let mut i: u64 = 0;
+    while i < 4096 {
+        e = emit_bond(buf, e, p, seed, t, i, which);
+        i += 1;
     }
     e
 }
 
 // The count of in-bonds or of out-bonds, and the bonds.
-fn emit_bonds(buf: &mut [u8], at: usize, p: Plan, seed: u64, t: u64, outgoing: bool) -> usize {
-    let n = p.bases;
-    let mut e = emit(buf, at, 0);
-    let mut a: u64 = 0;
-    while a < n {
-        e = emit_row(buf, e, p, seed, t, a, outgoing);
-        a += 1;
-    }
-    put(buf, at, length_of(at, e) / 2);
+fn emit_counted(buf: &mut [u8], at: usize, p: Plan, seed: u64, t: u64, which: u64) -> usize {
+    let from = emit(buf, at, 0);
+    let e = emit_bonds(buf, from, p, seed, t, which);
+    put(buf, at, length_of(from, e) / 2);
     e
 }
 
 fn emit_transition(buf: &mut [u8], at: usize, p: Plan, seed: u64, t: u64) -> usize {
     let a = emit_entries(buf, at, p, seed, t);
-    let b = emit_bonds(buf, a, p, seed, t, false);
-    let e = emit_bonds(buf, b, p, seed, t, true);
+    let b = emit_counted(buf, a, p, seed, t, IN);
+    let e = emit_counted(buf, b, p, seed, t, OUT);
     put_pair(buf, t % 64 + 2, at, e);
     e
 }
@@ -133,37 +127,19 @@ fn emit_places(buf: &mut [u8], at: usize, p: Plan, seed: u64) -> usize {
     e
 }
 
-fn emit_start_row(buf: &mut [u8], at: usize, p: Plan, seed: u64, a: u64) -> usize {
-    let n = p.bases;
-    let mut e = at;
-    let mut b: u64 = 0;
-    while b < n {
-        e = emit_bond(buf, e, a, b, (a < b) & starts_bonded(p, seed, a, b));
-        b += 1;
-    }
-    e
-}
-
-fn emit_start_bonds(buf: &mut [u8], at: usize, p: Plan, seed: u64) -> usize {
-    let n = p.bases;
-    let mut e = at;
-    let mut a: u64 = 0;
-    while a < n {
-        e = emit_start_row(buf, e, p, seed, a);
-        a += 1;
-    }
-    put_pair(buf, 1, at, e);
-    e
-}
-
-// The whole sheet; answers its length.
-pub fn write_sheet(buf: &mut [u8], p: Plan, seed: u64) -> usize {
+fn put_counts(buf: &mut [u8], p: Plan) {
     put(buf, 0, 1);
     put(buf, 1, p.places);
     put(buf, 2, p.bases);
     put(buf, 3, p.transitions);
+}
+
+// The whole sheet; answers its length.
+pub fn write_sheet(buf: &mut [u8], p: Plan, seed: u64) -> usize {
+    put_counts(buf, p);
     let at = (12 + 4 * (p.transitions % 65)) as usize;
     let a = emit_places(buf, at, p, seed);
-    let b = emit_start_bonds(buf, a, p, seed);
+    let b = emit_bonds(buf, a, p, seed, 0, START);
+    put_pair(buf, 1, a, b);
     emit_transitions(buf, b, p, seed)
 }

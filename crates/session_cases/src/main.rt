@@ -1,179 +1,156 @@
 // Generated sessions on generated sheets, each command given to the engine and to the second engine (crate oracle), and
-// everything that they answer and hold compared. Prints for each kind of sheet how many commands were run and how many
-// differed, with the first that did; then how often each answer was met, and the counts that have to reach a floor.
-mod report;
+// everything that they answer and hold compared (play); generated inputs, and their whole outputs compared with the text that is
+// made of the second engine's replies (outputs). What is run stands in the file stdin, a row for each kind of sheet (generated, rows).
+// Prints for each how many commands or inputs were run and how many differed, with the first that did; how often each answer was met;
+// the counts that have to reach a floor; and what the program writes at the most commands that it reads.
+mod compare;
+mod counts;
+mod input;
+mod lines;
+mod live;
+mod outputs;
+mod play;
+mod writer;
 
-use both_engines::counts::Counts;
-use both_engines::counts::none;
-use both_engines::counts::together;
-use both_engines::edges::edges;
-use both_engines::play::Way;
-use both_engines::play::play_accepted;
-use both_engines::play::session_on;
-use generated::plan::APART;
-use generated::plan::FORK;
-use generated::plan::GROUPS;
-use generated::plan::Plan;
-use generated::plan::RING;
-use generated::plan::SHUTTLE;
-use generated::plan::TOGETHER;
-use generated::plan::of;
+use case_tools::bytes::put_all;
+use case_tools::print::print_count;
+use case_tools::print::print_floor;
+use case_tools::print::print_run;
+use counts::DIFFERED;
+use counts::FIRST;
+use counts::RUN;
+use generated::plan::plan_of;
 use generated::plan::varied;
-use generated::plan::with;
-use report::print_answers;
-use report::print_floors;
-use report::print_group;
+use generated::rows::find;
+use generated::rows::part;
+use generated::rows::read_numbers;
+use generated::sheets::write_sheet;
+use oracle::sets::get;
+use oracle::sets::put;
+use outputs::generated_output;
+use outputs::print_limit;
+use outputs::printed;
+use play::session;
 use samples::sheet_a;
 use samples::sheet_b;
 
-// So many sessions, of n commands each, on sheets of one kind; above `room` live firings most commands take back; before
-// command `raise` the highest key is raised, where there are so many; the tally begins with one number in each count.
-struct Kind {
-    plan: Plan,
-    fixed: bool,
-    sessions: u64,
-    n: u64,
-    room: usize,
-    raise: u64,
-    tally: u16,
-}
-
-fn sized(plan: Plan, sessions: u64, n: u64, room: usize) -> Kind {
-    Kind {
-        plan: plan,
-        fixed: false,
-        sessions: sessions,
-        n: n,
-        room: room,
-        raise: n,
-        tally: 0,
+// Kinds of rows: 0 to 3 sessions on sheet A, on sheet B, on sheets within a plan's counts, on sheets that have them; 4 to 6 outputs on
+// the first three; 7 outputs that document 01 prints; 8 a count, 9 one that has a floor; else the most commands.
+fn write_one(buf: &mut [u8], w: &[u64], seed: u64) -> usize {
+    let kind = get(w, 1) % 4;
+    if kind == 0 {
+        let a = sheet_a();
+        put_all(buf, 0, &a);
+        return 40;
     }
+    if kind == 1 {
+        let b = sheet_b();
+        put_all(buf, 0, &b);
+        return 98;
+    }
+    let p = plan_of(w);
+    let q = if kind == 2 { varied(p, seed) } else { p };
+    write_sheet(buf, q, seed)
 }
 
-// Every sheet has the plan's own counts.
-fn fixed(g: Kind) -> Kind {
-    let mut next = g;
-    next.fixed = true;
-    next
-}
-
-fn raising(g: Kind, raise: u64) -> Kind {
-    let mut next = g;
-    next.raise = raise;
-    next
-}
-
-fn tallied(g: Kind, tally: u16) -> Kind {
-    let mut next = g;
-    next.tally = tally;
-    next
-}
-
-fn session(c: Counts, g: Kind, seed: u64) -> Counts {
-    let w = Way {
-        seed: seed,
-        n: g.n,
-        room: g.room,
-        raise: g.raise,
-        tally: g.tally,
-    };
-    let p = g.plan;
-    if g.fixed {
-        session_on(c, p, w)
+fn run_one(c: &mut [u64], w: &[u64], letters: &[u8], seed: u64) {
+    let mut buf = [0u8; 32768];
+    let n = write_one(&mut buf, w, seed);
+    let sheet = part(&buf, 0, n);
+    if get(w, 1) < 4 {
+        session(c, sheet, w, letters, seed);
     } else {
-        session_on(c, varied(p, seed), w)
+        generated_output(c, sheet, w, seed);
     }
 }
 
-fn sessions(g: Kind) -> Counts {
-    let n = g.sessions;
-    let mut c = none();
-    let mut s: u64 = 0;
-    while s < n {
-        c = session(c, g, s);
-        s += 1;
+fn run_all(c: &mut [u64], w: &[u64], letters: &[u8]) {
+    let n = get(w, 2);
+    let mut seed: u64 = 0;
+    while seed < n {
+        run_one(c, w, letters, seed);
+        seed += 1;
     }
-    c
 }
 
-// The group's counts go to all.
-fn group(name: &[u8], g: Kind, all: Counts) -> Counts {
-    let c = sessions(g);
-    print_group(name, c);
-    together(all, c)
-}
-
-// Sessions on one sheet.
-fn on_sheet(name: &[u8], sheet: &[u8], count: u64, all: Counts) -> Counts {
-    let mut c = none();
-    let mut s: u64 = 0;
-    while s < count {
-        let w = Way {
-            seed: s,
-            n: 60,
-            room: 6,
-            raise: 60,
-            tally: 0,
-        };
-        c = play_accepted(c, sheet, w);
-        s += 1;
-    }
-    print_group(name, c);
-    together(all, c)
-}
-
-// Document 01's sheets A and B, and its edges on sheet B, whose step 2 can always fire.
-fn printed() -> Counts {
-    let a = sheet_a();
-    let b = sheet_b();
-    let mut t = on_sheet(b"sheet A", &a, 40, none());
-    t = on_sheet(b"sheet B", &b, 80, t);
-    let e = edges(none(), &b, 2);
-    print_group(b"256 live and serial 65,535", e);
-    together(t, e)
-}
-
-// Each line: the counts that a sheet has at most (places, bases, transitions), its route; the chances of entries and bonds;
-// sessions, commands of each, and the live firings above which most commands take back.
-fn small(others: Counts) -> Counts {
-    let mut t = others;
-    let dense = with(of(2, 8, 10, TOGETHER), 8, 2, 1, 3);
-    let carried = with(of(3, 8, 8, RING), 1, 6, 0, 1);
-    let forking = with(of(2, 6, 8, FORK), 4, 5, 0, 3);
-    let coupled = with(of(2, 6, 8, TOGETHER), 6, 6, 4, 4);
-    let shuttle = with(of(4, 12, 16, SHUTTLE), 3, 0, 14, 10);
-    t = group(b"tiny", sized(of(3, 4, 4, APART), 120, 60, 6), t);
-    t = group(b"dense", sized(dense, 120, 60, 6), t);
-    t = group(b"carried", sized(carried, 120, 60, 8), t);
-    t = group(b"cyclic", sized(of(3, 6, 9, RING), 120, 60, 8), t);
-    t = group(b"unrelated", sized(of(3, 12, 18, GROUPS), 120, 60, 10), t);
-    t = group(b"forking", sized(forking, 180, 60, 6), t);
-    t = group(b"in-bonds", sized(coupled, 120, 60, 6), t);
-    group(b"there and back", sized(shuttle, 300, 60, 12), t)
-}
-
-// Many live firings, keys and tallies near 65,535, and sheets with 64 places, parts and steps.
-fn large(others: Counts) -> Counts {
-    let mut t = others;
-    let keys = raising(sized(of(3, 12, 18, GROUPS), 60, 60, 10), 12);
-    let tallies = tallied(sized(of(3, 4, 4, APART), 40, 60, 6), 65525);
-    let wide = with(of(64, 64, 64, RING), 15, 0, 0, 1);
-    let pairs = sized(of(64, 64, 64, GROUPS), 16, 150, 40);
-    let shuttle = sized(with(of(64, 64, 64, SHUTTLE), 1, 0, 14, 8), 16, 150, 30);
-    t = group(b"many live", sized(of(1, 6, 9, GROUPS), 6, 400, 256), t);
-    t = group(b"last keys", keys, t);
-    t = group(b"tallies at their limit", tallies, t);
-    t = group(
-        b"maxima, most parts in a step",
-        fixed(sized(wide, 6, 30, 8)),
-        t,
+fn print_first(c: &[u64]) {
+    print_count(b"    first: seed", get(c, FIRST));
+    print_count(b"    command from 1, or byte from 0", get(c, FIRST + 1));
+    print_count(
+        b"    ours: a byte, or the key, and 65,536 more where undone, or the number and 131,072 more where refused",
+        get(c, FIRST + 2),
     );
-    t = group(b"maxima, two parts in a step", fixed(pairs), t);
-    group(b"maxima, there and back", fixed(shuttle), t)
+    print_count(b"    the second engine's, or the text's", get(c, FIRST + 3));
+    print_count(
+        b"    what differs: 1 answer, 2 places, 4 bonds, 8 tally, 16 live list, 32 moved flags, 64 unused entries, 128 output",
+        get(c, FIRST + 4),
+    );
+}
+
+// The group's counts, and its first difference where there is one. A row without a name belongs to the next.
+fn print_group(c: &mut [u64], name: &[u8]) {
+    if name.len() == 0 {
+        return;
+    }
+    print_run(name, get(c, RUN), get(c, DIFFERED));
+    if get(c, DIFFERED) != 0 {
+        print_first(c);
+    }
+    put(c, RUN, 0);
+    put(c, DIFFERED, 0);
+}
+
+fn run_group(c: &mut [u64], w: &[u64], letters: &[u8]) {
+    if get(w, 1) == 7 {
+        printed(c);
+    } else {
+        run_all(c, w, letters);
+    }
+}
+
+fn run_row(c: &mut [u64], name: &[u8], letters: &[u8], w: &[u64]) {
+    let kind = get(w, 1);
+    let at = (get(w, 2) % 64) as usize;
+    if kind == 8 {
+        print_count(name, get(c, at));
+        return;
+    }
+    if kind == 9 {
+        print_floor(name, get(c, at), get(w, 3));
+        return;
+    }
+    if 9 < kind {
+        print_limit(name, (get(w, 2) % 4294967296) as usize);
+        return;
+    }
+    run_group(c, w, letters);
+    print_group(c, name);
+}
+
+fn read_row(c: &mut [u64], line: &[u8]) {
+    let colon = find(line, 0, b':');
+    let space = find(line, colon, b' ');
+    let mut w = [0u64; 16];
+    read_numbers(&mut w, part(line, space, line.len()));
+    run_row(c, part(line, 0, colon), part(line, colon, space), &w);
+}
+
+fn read_rows(c: &mut [u64], text: &[u8]) {
+    let n = text.len();
+    let mut at: usize = 0;
+    while at < n {
+        let end = find(text, at, b'\n');
+        read_row(c, part(text, at, end));
+        if n <= end {
+            return;
+        }
+        at = end + 1;
+    }
 }
 
 fn main() {
-    let total = large(small(printed()));
-    print_answers(total);
-    print_floors(total);
+    let mut text = io::large_buffer();
+    let n = io::read_full(0, &mut text);
+    let mut c = [0u64; 64];
+    read_rows(&mut c, &text[..n]);
 }

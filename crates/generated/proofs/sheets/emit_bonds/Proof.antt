@@ -8,34 +8,25 @@ use Rattle.generated.proofs.sheets.emit_bonds.Statement.{statement}
 use Rattle.generated.proofs.sheets.emit_bonds.Tie as tie
 
 abbrev Inv-loop : tie.InvT-loop
-Inv-loop buf₀ at p seed t outgoing n e₀ a₀ buf e a = (a ≤ n) × (length buf ≡ length buf₀)
+Inv-loop buf₀ at p seed t which e₀ i₀ buf e i = (i ≤ 4096) × (length buf ≡ length buf₀)
 
 abbrev μ-loop : tie.MeasureT-loop
-μ-loop buf₀ at p seed t outgoing n e₀ a₀ buf e a = n - a
-
-emit-requires : tie.Need-emit-requires Inv-loop μ-loop
-emit-requires c κs = search needs
+μ-loop buf₀ at p seed t which e₀ i₀ buf e i = 4096 - i
 
 loop-holds : tie.Need-loop-holds Inv-loop μ-loop
 loop-holds c = search needs
 
-emit-row-requires : tie.Need-emit-row-requires Inv-loop μ-loop
-emit-row-requires c κs = search needs
+emit-bond-requires : tie.Need-emit-bond-requires Inv-loop μ-loop
+emit-bond-requires c κs = search needs
 
-add-a : tie.Need-add-a Inv-loop μ-loop
-add-a c = search needs
+add-i : tie.Need-add-i Inv-loop μ-loop
+add-i c = search needs
 
 loop-less : tie.Need-loop-less Inv-loop μ-loop
 loop-less c = search needs
 
 loop-again : tie.Need-loop-again Inv-loop μ-loop
 loop-again c = search needs
-
-length-of-requires : tie.Need-length-of-requires Inv-loop μ-loop
-length-of-requires c κs = search needs
-
-put-requires : tie.Need-put-requires Inv-loop μ-loop
-put-requires c κs = search needs
 
 same-length : tie.Need-same-length Inv-loop μ-loop
 same-length c = search needs
@@ -49,13 +40,10 @@ emit-bonds-spec =
     (tie.spec
     Inv-loop
     μ-loop
-    emit-requires
     loop-holds
-    emit-row-requires
-    add-a
+    emit-bond-requires
+    add-i
     loop-less
     loop-again
-    length-of-requires
-    put-requires
     same-length
     returns)

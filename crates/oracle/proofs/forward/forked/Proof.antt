@@ -6,10 +6,13 @@ use Rattle.oracle.proofs.forward.forked.Statement.{statement}
 use Rattle.oracle.proofs.forward.forked.Tie as tie
 
 abbrev Inv-loop : tie.InvT-loop
-Inv-loop m outgoing post all₀ y₀ all y = y ≤ 64
+Inv-loop s n all₀ i₀ all i = i ≤ n
 
 abbrev μ-loop : tie.MeasureT-loop
-μ-loop m outgoing post all₀ y₀ all y = 64 - y
+μ-loop s n all₀ i₀ all i = n - i
+
+size-requires : tie.Need-size-requires Inv-loop μ-loop
+size-requires c κs = search needs
 
 loop-holds : tie.Need-loop-holds Inv-loop μ-loop
 loop-holds c = search needs
@@ -17,8 +20,8 @@ loop-holds c = search needs
 forked-at-requires : tie.Need-forked-at-requires Inv-loop μ-loop
 forked-at-requires c κs = search needs
 
-add-y : tie.Need-add-y Inv-loop μ-loop
-add-y c = search needs
+add-i : tie.Need-add-i Inv-loop μ-loop
+add-i c = search needs
 
 loop-less : tie.Need-loop-less Inv-loop μ-loop
 loop-less c = search needs
@@ -32,4 +35,13 @@ returns c = search needs
 pub forked-spec : {M : Type 1} → statement M
 forked-spec =
     tie.close
-    (tie.spec Inv-loop μ-loop loop-holds forked-at-requires add-y loop-less loop-again returns)
+    (tie.spec
+    Inv-loop
+    μ-loop
+    size-requires
+    loop-holds
+    forked-at-requires
+    add-i
+    loop-less
+    loop-again
+    returns)

@@ -6,19 +6,22 @@ use Rattle.oracle.proofs.forward.lacking.Statement.{statement}
 use Rattle.oracle.proofs.forward.lacking.Tie as tie
 
 abbrev Inv-loop : tie.InvT-loop
-Inv-loop m incoming all₀ i₀ all i = i ≤ 4160
+Inv-loop s labels n all₀ i₀ all i = i ≤ n
 
 abbrev μ-loop : tie.MeasureT-loop
-μ-loop m incoming all₀ i₀ all i = 4160 - i
+μ-loop s labels n all₀ i₀ all i = n - i
+
+size-requires : tie.Need-size-requires Inv-loop μ-loop
+size-requires c κs = search needs
 
 loop-holds : tie.Need-loop-holds Inv-loop μ-loop
 loop-holds c = search needs
 
-get-requires : tie.Need-get-requires Inv-loop μ-loop
-get-requires c κs = search needs
+word-at-requires : tie.Need-word-at-requires Inv-loop μ-loop
+word-at-requires c κs = search needs
 
-get-requires-2 : tie.Need-get-requires-2 Inv-loop μ-loop
-get-requires-2 c κs = search needs
+word-at-requires-2 : tie.Need-word-at-requires-2 Inv-loop μ-loop
+word-at-requires-2 c κs = search needs
 
 less-requires : tie.Need-less-requires Inv-loop μ-loop
 less-requires c κs = search needs
@@ -41,9 +44,10 @@ lacking-spec =
     (tie.spec
     Inv-loop
     μ-loop
+    size-requires
     loop-holds
-    get-requires
-    get-requires-2
+    word-at-requires
+    word-at-requires-2
     less-requires
     add-i
     loop-less

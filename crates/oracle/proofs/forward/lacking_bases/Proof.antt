@@ -6,10 +6,10 @@ use Rattle.oracle.proofs.forward.lacking_bases.Statement.{statement}
 use Rattle.oracle.proofs.forward.lacking_bases.Tie as tie
 
 abbrev Inv-loop : tie.InvT-loop
-Inv-loop m incoming all₀ x₀ all x = x ≤ 64
+Inv-loop s all₀ x₀ all x = x ≤ 64
 
 abbrev μ-loop : tie.MeasureT-loop
-μ-loop m incoming all₀ x₀ all x = 64 - x
+μ-loop s all₀ x₀ all x = 64 - x
 
 loop-holds : tie.Need-loop-holds Inv-loop μ-loop
 loop-holds c = search needs

@@ -6,10 +6,13 @@ use Rattle.oracle.proofs.forward.repeated.Statement.{statement}
 use Rattle.oracle.proofs.forward.repeated.Tie as tie
 
 abbrev Inv-loop : tie.InvT-loop
-Inv-loop m incoming post all₀ i₀ all i = i ≤ 4160
+Inv-loop s n all₀ i₀ all i = i ≤ n
 
 abbrev μ-loop : tie.MeasureT-loop
-μ-loop m incoming post all₀ i₀ all i = 4160 - i
+μ-loop s n all₀ i₀ all i = n - i
+
+size-requires : tie.Need-size-requires Inv-loop μ-loop
+size-requires c κs = search needs
 
 loop-holds : tie.Need-loop-holds Inv-loop μ-loop
 loop-holds c = search needs
@@ -32,4 +35,13 @@ returns c = search needs
 pub repeated-spec : {M : Type 1} → statement M
 repeated-spec =
     tie.close
-    (tie.spec Inv-loop μ-loop loop-holds repeated-at-requires add-i loop-less loop-again returns)
+    (tie.spec
+    Inv-loop
+    μ-loop
+    size-requires
+    loop-holds
+    repeated-at-requires
+    add-i
+    loop-less
+    loop-again
+    returns)

@@ -8,25 +8,13 @@ use Rattle.oracle.proofs.history.forget.Statement.{statement}
 use Rattle.oracle.proofs.history.forget.Tie as tie
 
 abbrev Inv-loop : tie.InvT-loop
-Inv-loop h₀ slot s₀ h s = (s ≤ 256) × (length h ≡ length h₀)
+Inv-loop s₀ slot i₀ s i = (i ≤ 256) × (length s ≡ length s₀)
 
 abbrev μ-loop : tie.MeasureT-loop
-μ-loop h₀ slot s₀ h s = 256 - s
+μ-loop s₀ slot i₀ s i = 256 - i
 
-put-requires : tie.Need-put-requires Inv-loop μ-loop
-put-requires c κs = search needs
-
-add-put : tie.Need-add-put Inv-loop μ-loop
-add-put c = search needs
-
-put-requires-2 : tie.Need-put-requires-2 Inv-loop μ-loop
-put-requires-2 c κs = search needs
-
-add-put-2 : tie.Need-add-put-2 Inv-loop μ-loop
-add-put-2 c = search needs
-
-put-requires-3 : tie.Need-put-requires-3 Inv-loop μ-loop
-put-requires-3 c κs = search needs
+set-slot-requires : tie.Need-set-slot-requires Inv-loop μ-loop
+set-slot-requires c κs = search needs
 
 loop-holds : tie.Need-loop-holds Inv-loop μ-loop
 loop-holds c = search needs
@@ -34,8 +22,8 @@ loop-holds c = search needs
 part-requires : tie.Need-part-requires Inv-loop μ-loop
 part-requires c κs = search needs
 
-add-s : tie.Need-add-s Inv-loop μ-loop
-add-s c = search needs
+add-i : tie.Need-add-i Inv-loop μ-loop
+add-i c = search needs
 
 loop-less : tie.Need-loop-less Inv-loop μ-loop
 loop-less c = search needs
@@ -55,14 +43,10 @@ forget-spec =
     (tie.spec
     Inv-loop
     μ-loop
-    put-requires
-    add-put
-    put-requires-2
-    add-put-2
-    put-requires-3
+    set-slot-requires
     loop-holds
     part-requires
-    add-s
+    add-i
     loop-less
     loop-again
     same-length

@@ -6,10 +6,10 @@ use Rattle.oracle.proofs.history.latest.Statement.{statement}
 use Rattle.oracle.proofs.history.latest.Tie as tie
 
 abbrev Inv-loop : tie.InvT-loop
-Inv-loop h t best₀ s₀ best s = s ≤ 256
+Inv-loop s t best₀ i₀ best i = i ≤ 256
 
 abbrev μ-loop : tie.MeasureT-loop
-μ-loop h t best₀ s₀ best s = 256 - s
+μ-loop s t best₀ i₀ best i = 256 - i
 
 loop-holds : tie.Need-loop-holds Inv-loop μ-loop
 loop-holds c = search needs
@@ -20,8 +20,8 @@ key-of-requires c κs = search needs
 larger-requires : tie.Need-larger-requires Inv-loop μ-loop
 larger-requires c κs = search needs
 
-add-s : tie.Need-add-s Inv-loop μ-loop
-add-s c = search needs
+add-i : tie.Need-add-i Inv-loop μ-loop
+add-i c = search needs
 
 loop-less : tie.Need-loop-less Inv-loop μ-loop
 loop-less c = search needs
@@ -41,7 +41,7 @@ latest-spec =
     loop-holds
     key-of-requires
     larger-requires
-    add-s
+    add-i
     loop-less
     loop-again
     returns)

@@ -6,10 +6,10 @@ use Rattle.oracle.proofs.history.live.Statement.{statement}
 use Rattle.oracle.proofs.history.live.Tie as tie
 
 abbrev Inv-loop : tie.InvT-loop
-Inv-loop h n₀ s₀ n s = (s ≤ 256) × (n ≤ s)
+Inv-loop s n₀ i₀ n i = (i ≤ 256) × (n ≤ i)
 
 abbrev μ-loop : tie.MeasureT-loop
-μ-loop h n₀ s₀ n s = 256 - s
+μ-loop s n₀ i₀ n i = 256 - i
 
 loop-holds : tie.Need-loop-holds Inv-loop μ-loop
 loop-holds c = search needs
@@ -20,8 +20,8 @@ taken-requires c κs = search needs
 add-n : tie.Need-add-n Inv-loop μ-loop
 add-n c = search needs
 
-add-s : tie.Need-add-s Inv-loop μ-loop
-add-s c = search needs
+add-i : tie.Need-add-i Inv-loop μ-loop
+add-i c = search needs
 
 loop-less : tie.Need-loop-less Inv-loop μ-loop
 loop-less c = search needs
@@ -35,4 +35,4 @@ returns c = search needs
 pub live-spec : {M : Type 1} → statement M
 live-spec =
     tie.close
-    (tie.spec Inv-loop μ-loop loop-holds taken-requires add-n add-s loop-less loop-again returns)
+    (tie.spec Inv-loop μ-loop loop-holds taken-requires add-n add-i loop-less loop-again returns)

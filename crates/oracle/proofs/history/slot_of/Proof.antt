@@ -6,10 +6,10 @@ use Rattle.oracle.proofs.history.slot_of.Statement.{statement}
 use Rattle.oracle.proofs.history.slot_of.Tie as tie
 
 abbrev Inv-loop : tie.InvT-loop
-Inv-loop h key s₀ s = s ≤ 256
+Inv-loop s key i₀ i = i ≤ 256
 
 abbrev μ-loop : tie.MeasureT-loop
-μ-loop h key s₀ s = 256 - s
+μ-loop s key i₀ i = 256 - i
 
 loop-holds : tie.Need-loop-holds Inv-loop μ-loop
 loop-holds c = search needs
@@ -20,8 +20,8 @@ key-at-requires c κs = search needs
 returns : tie.Need-returns Inv-loop μ-loop
 returns c = search needs
 
-add-s : tie.Need-add-s Inv-loop μ-loop
-add-s c = search needs
+add-i : tie.Need-add-i Inv-loop μ-loop
+add-i c = search needs
 
 loop-less : tie.Need-loop-less Inv-loop μ-loop
 loop-less c = search needs
@@ -41,7 +41,7 @@ slot-of-spec =
     loop-holds
     key-at-requires
     returns
-    add-s
+    add-i
     loop-less
     loop-again
     returns-2)

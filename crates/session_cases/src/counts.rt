@@ -1,0 +1,130 @@
+// What is counted of sessions on both engines, in a lent slice of words: commands, differences, answers, and how often the rarer
+// things were met. The first difference of a group is kept, so that it can be found again.
+use oracle::FIRED;
+use oracle::UNDONE;
+use oracle::highest;
+use oracle::moved_at;
+use oracle::reader::arc_bases;
+use oracle::reader::count;
+use oracle::reader::in_bonds;
+use oracle::sets::get;
+use oracle::sets::less;
+use oracle::sets::put;
+use oracle::slot_of;
+use oracle::tally_at;
+use oracle::transition_at;
+
+// Words 0 to 12: fired, undone, refused by 11 to 21; then the refusals by any other number.
+const OTHERS: usize = 13;
+
+pub const SHEETS_REFUSED: usize = 14;
+
+// Takings back of a firing that was not the last; firings that carried a base which is no entry, of a transition that has
+// an in-bond, on a sheet with 64 of everything; firings that made 256 live; firings that were given key 65,535; commands after
+// which a count of the tally is 65,535.
+const MIDDLE: usize = 15;
+
+const CARRIED: usize = 16;
+
+const COUPLED: usize = 17;
+
+const FULL_SIZE: usize = 18;
+
+const MOST_LIVE: usize = 19;
+
+const LAST_KEY: usize = 20;
+
+const FULL_COUNT: usize = 21;
+
+// Bytes of all outputs.
+pub const BYTES: usize = 22;
+
+// Of the group: how many commands or inputs were run, and how many differed.
+pub const RUN: usize = 23;
+
+pub const DIFFERED: usize = 24;
+
+// The first that differed: the seed, the command's number from 1 or the byte's from 0, ours, the second engine's, and what
+// differs.
+pub const FIRST: usize = 25;
+
+// So many more, where a thing is so. Counts are taken below 2^32.
+pub fn more(c: &mut [u64], at: usize, n: u64, there: bool) {
+    let old = get(c, at) % 4294967296;
+    if there {
+        put(c, at, old + n % 4294967296);
+    }
+}
+
+fn is_full_size(sheet: &[u8]) -> bool {
+    (count(sheet, 1) == 64) & ((count(sheet, 2) == 64) & (count(sheet, 3) == 64))
+}
+
+// After a firing of that key: what it reached.
+fn count_firing(c: &mut [u64], sheet: &[u8], s: &[u64], key: u64) {
+    let slot = slot_of(s, key);
+    let t = transition_at(s, slot);
+    let carried = less(moved_at(s, slot), arc_bases(sheet, t)) != 0;
+    more(c, CARRIED, 1, carried);
+    more(c, COUPLED, 1, count(sheet, in_bonds(sheet, t)) != 0);
+    more(c, FULL_SIZE, 1, is_full_size(sheet));
+    more(c, MOST_LIVE, 1, oracle::live(s) == 256);
+    more(c, LAST_KEY, 1, key == 65535);
+}
+
+// Where an answer is counted.
+fn row_of(reply: u64) -> usize {
+    let word = reply / 65536;
+    let number = reply % 65536;
+    if word < 2 {
+        return word as usize;
+    }
+    if number < 11 {
+        return OTHERS;
+    }
+    if number < 22 {
+        (number - 9) as usize
+    } else {
+        OTHERS
+    }
+}
+
+fn is_full(s: &[u64], word: u64) -> bool {
+    tally_at(s, word) == 65535
+}
+
+// One more command, with the second engine's reply and its state afterwards. A taking back was from the middle where a higher
+// key is left.
+pub fn count_command(c: &mut [u64], sheet: &[u8], s: &[u64], reply: u64) {
+    let word = reply / 65536;
+    let key = reply % 65536;
+    more(c, RUN, 1, true);
+    more(c, row_of(reply), 1, true);
+    more(c, MIDDLE, 1, (word == UNDONE) & (key < highest(s)));
+    more(
+        c,
+        FULL_COUNT,
+        1,
+        is_full(s, 0) | (is_full(s, 1) | is_full(s, 2)),
+    );
+    if word == FIRED {
+        count_firing(c, sheet, s, key);
+    }
+}
+
+fn keep(c: &mut [u64], seed: u64, number: u64, ours: u64, theirs: u64, what: u64) {
+    put(c, FIRST, seed);
+    put(c, FIRST + 1, number);
+    put(c, FIRST + 2, ours);
+    put(c, FIRST + 3, theirs);
+    put(c, FIRST + 4, what);
+}
+
+// One more that differed, which is kept where it is the first.
+pub fn differing(c: &mut [u64], seed: u64, number: u64, ours: u64, theirs: u64, what: u64) {
+    let first = get(c, DIFFERED) == 0;
+    more(c, DIFFERED, 1, true);
+    if first {
+        keep(c, seed, number, ours, theirs, what);
+    }
+}

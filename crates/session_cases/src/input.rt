@@ -1,0 +1,90 @@
+// An input of the exam program and the output that the second engine makes of it, in one lent buffer: the input from 0 on, a sheet
+// with its length and then commands by lot, each drawn from the second engine's state; the text from 40,000 on. Every third input
+// ends with one byte too few for a command, and every third with two.
+ghost use Prim.Native.Nat.{_≤_};
+use crate::lines::put_closing;
+use crate::lines::put_line;
+use case_tools::bytes::byte;
+use case_tools::bytes::put;
+use case_tools::bytes::put_all;
+use generated::commands::command_byte;
+use generated::commands::command_of;
+use oracle::STATE;
+
+// Where the text begins.
+pub const TEXT: usize = 40000;
+
+// Command i by lot, of which so many bytes are given: its bytes go to the input, its line to the text.
+fn advanced(
+    buf: &mut [u8],
+    at: usize,
+    sheet: &[u8],
+    s: &mut [u64],
+    seed: u64,
+    i: u64,
+    room: u64,
+    size: usize,
+) -> usize
+    requires { ⌜ (size ≤ 3) × (i ≤ 65536) ⌝ }
+{
+    let g = command_of(sheet, s, seed, i, room);
+    let bytes = [command_byte(g, 0), command_byte(g, 1), command_byte(g, 2)];
+    put_all(buf, sheet.len() % 65536 + 2 + 3 * i as usize, &bytes);
+    let reply = oracle::command(sheet, &bytes[0..size], s);
+    put_line(buf, at, i + 1, reply)
+}
+
+// How many bytes of a command are given: of the last one, 3, 1 or 2.
+fn size_of(left: u64, seed: u64) -> usize
+    ensures { λ r. ⌜ r ≤ 3 ⌝ }
+{
+    if (left == 1) & (seed % 3 != 0) {
+        (seed % 3) as usize
+    } else {
+        3
+    }
+}
+
+// All commands; where their text ends.
+fn commands(buf: &mut [u8], sheet: &[u8], s: &mut [u64], seed: u64, n: u64, room: u64) -> usize
+    requires { ⌜ n ≤ 65536 ⌝ }
+{
+    let mut at = TEXT;
+    let mut i: u64 = 0;
+    while i < n {
+        at = advanced(buf, at, sheet, s, seed, i, room, size_of(n - i, seed));
+        i += 1;
+    }
+    at
+}
+
+// How long the input of n commands is.
+pub fn input_length(sheet: &[u8], seed: u64, n: u64) -> usize
+    requires { ⌜ n ≤ 65536 ⌝ }
+{
+    let front = sheet.len() % 65536 + 2;
+    if n == 0 {
+        front
+    } else {
+        front + 3 * (n - 1) as usize + size_of(1, seed)
+    }
+}
+
+fn zeros() -> [u64; STATE] {
+    [0; STATE]
+}
+
+// The input of a session of n commands on an accepted sheet, and its text; where the text ends. Above `room` live firings most
+// commands take back.
+pub fn make(buf: &mut [u8], sheet: &[u8], seed: u64, n: u64, room: u64) -> usize
+    requires { ⌜ n ≤ 65536 ⌝ }
+{
+    let length = (sheet.len() % 65536) as u64;
+    put(buf, 0, length);
+    put(buf, 1, length / 256);
+    put_all(buf, 2, sheet);
+    let mut s = zeros();
+    oracle::begin(sheet, &mut s, 0);
+    let at = commands(buf, sheet, &mut s, seed, n, room);
+    put_closing(buf, at, &s, byte(sheet, 2) as usize)
+}

@@ -1,0 +1,217 @@
+// A session on both engines: each command, by lot or by its letter, is given to both, and what they answer and hold afterwards is
+// compared (compare) and counted (counts). A way is a row of numbers: 1 the kind of case, 2 how many sessions, 3 how many commands
+// each has, 4 above how many live firings most take back, 5 before which command, counted from 0, the highest key is raised (after the
+// last: never), 6 what each count of the tally begins with, 7 to 14 the plan of the sheets.
+use crate::compare::differs;
+use crate::counts::SHEETS_REFUSED;
+use crate::counts::count_command;
+use crate::counts::differing;
+use crate::counts::more;
+use case_tools::bytes::byte;
+use generated::commands::command_byte;
+use generated::commands::command_length;
+use generated::commands::command_of;
+use generated::commands::made;
+use net::Key;
+use oracle::STATE;
+use oracle::sets::get;
+use session::Answer;
+use session::Counted;
+use session::Outcome;
+use session::Record;
+use session::StartAnswer;
+use session::command_with;
+use session::value_of;
+use session::word_of;
+use session_start::start;
+use tally::Tally;
+
+// After a command on both: compared and counted.
+fn settle(c: &mut [u64], sheet: &[u8], s: &[u64], after: Counted, reply: u64, seed: u64, i: u64) {
+    let o = after.outcome;
+    let a = o.answer;
+    let ours = word_of(a) as u64 * 65536 + value_of(a, o.key) as u64;
+    let what = differs(after, ours, reply, s, byte(sheet, 2) as usize);
+    count_command(c, sheet, s, reply);
+    if what != 0 {
+        differing(c, seed, i % 65536 + 1, ours, reply, what);
+    }
+}
+
+// The customer's call with a lent tally.
+fn commanded(p: Counted, sheet: &[u8], bytes: &[u8]) -> Counted {
+    let o = p.outcome;
+    let r = o.session;
+    command_with(r, sheet, bytes, p.tally)
+}
+
+// One command's bytes, given to both.
+fn given(
+    p: Counted,
+    c: &mut [u64],
+    sheet: &[u8],
+    s: &mut [u64],
+    bytes: &[u8],
+    seed: u64,
+    i: u64,
+) -> Counted {
+    let after = commanded(p, sheet, bytes);
+    let reply = oracle::command(sheet, bytes, s);
+    settle(c, sheet, s, after, reply, seed, i);
+    after
+}
+
+fn turn(
+    p: Counted,
+    c: &mut [u64],
+    sheet: &[u8],
+    s: &mut [u64],
+    g: u64,
+    seed: u64,
+    i: u64,
+) -> Counted {
+    let bytes = [command_byte(g, 0), command_byte(g, 1), command_byte(g, 2)];
+    let n = command_length(g);
+    given(p, c, sheet, s, &bytes[0..n], seed, i)
+}
+
+// The record with another key in the last live firing: it stays sound where that is above the others.
+fn with_last_key(r: Record, key: u16) -> Record {
+    let mut f = r.firings;
+    let mut next = r;
+    if f.live != 0 {
+        let i = (f.live - 1) % 256;
+        f.keys[i] = key;
+    }
+    next.firings = f;
+    next
+}
+
+// The highest key is raised in our record; not where 0 is given.
+fn raised(p: Counted, key: u16) -> Counted {
+    if key == 0 {
+        return p;
+    }
+    let mut o = p.outcome;
+    let r = with_last_key(o.session, key);
+    o.session = r;
+    let mut next = p;
+    next.outcome = o;
+    next
+}
+
+// Where letters are given, each is a command of a step that can always fire, as step 2 of sheet B is:
+//   f fires the step           r raises the highest serial to 65,534 in both engines, and fires
+//   u takes back the last      t raises it to 65,535, and fires
+//   a takes back 65,534        b takes back 65,535
+fn letter_raise(letter: u8) -> u16 {
+    if letter == b'r' {
+        return 65534;
+    }
+    if letter == b't' { 65535 } else { 0 }
+}
+
+fn letter_command(letter: u8) -> u64 {
+    if letter == b'u' {
+        return made(2, 0, 3);
+    }
+    if letter == b'a' {
+        return made(3, 65534, 3);
+    }
+    if letter == b'b' {
+        return made(3, 65535, 3);
+    }
+    made(1, 2, 3)
+}
+
+fn raise_at(w: &[u64], letter: u8, seed: u64, i: u64) -> u16 {
+    if letter != 0 {
+        return letter_raise(letter);
+    }
+    if i == get(w, 5) {
+        (65530 + seed % 6) as u16
+    } else {
+        0
+    }
+}
+
+fn command_at(sheet: &[u8], s: &mut [u64], w: &[u64], letter: u8, seed: u64, i: u64) -> u64 {
+    if letter != 0 {
+        return letter_command(letter);
+    }
+    command_of(sheet, s, seed, i, get(w, 4))
+}
+
+// The command of a turn, given to both.
+fn advanced(
+    p: Counted,
+    c: &mut [u64],
+    sheet: &[u8],
+    s: &mut [u64],
+    w: &[u64],
+    letter: u8,
+    seed: u64,
+    i: u64,
+) -> Counted {
+    let key = raise_at(w, letter, seed, i);
+    let q = raised(p, key);
+    oracle::raise(s, key as u64);
+    let g = command_at(sheet, s, w, letter, seed, i);
+    turn(q, c, sheet, s, g, seed, i)
+}
+
+// A fresh record, and a tally that has one number in each count.
+fn begun(r: Record, tally: u16) -> Counted {
+    let counts = Tally {
+        fired: tally,
+        undone: tally,
+        refused: tally,
+    };
+    let outcome = Outcome {
+        answer: Answer::Refused(0),
+        key: Key(0),
+        session: r,
+    };
+    Counted {
+        outcome: outcome,
+        tally: counts,
+    }
+}
+
+// All commands; the letters, where there are any, begin with a colon.
+fn play(
+    first: Counted,
+    c: &mut [u64],
+    sheet: &[u8],
+    s: &mut [u64],
+    w: &[u64],
+    letters: &[u8],
+    seed: u64,
+) {
+    let n = get(w, 3) % 65536;
+    let mut p = first;
+    let mut i: u64 = 0;
+    while i < n {
+        p = advanced(p, c, sheet, s, w, byte(letters, i as usize + 1), seed, i);
+        i += 1;
+    }
+}
+
+fn zeros() -> [u64; STATE] {
+    [0; STATE]
+}
+
+// Plays on an accepted sheet; a refused one is counted, and no command is given on it.
+pub fn session(c: &mut [u64], sheet: &[u8], w: &[u64], letters: &[u8], seed: u64) {
+    let first = start(sheet);
+    let a = first.answer;
+    let StartAnswer::Started = a else {
+        more(c, SHEETS_REFUSED, 1, true);
+        return;
+    };
+    let tally = get(w, 6) % 65536;
+    let p = begun(first.session, tally as u16);
+    let mut s = zeros();
+    oracle::begin(sheet, &mut s, tally);
+    play(p, c, sheet, &mut s, w, letters, seed);
+}
