@@ -1,86 +1,82 @@
-// A record with one thing changed; nothing where the entry is not there.
-// The cases alter each field of a sound record in turn.
-use firings::Firing;
+// A record with one thing changed: the cases alter each field of a sound record in turn. An edit is the number of a field, an
+// index and a value.
+//   0 place i is v              3 v is 0: i firings are live         6 base i put into the moved set of firing v, or taken out
+//   1 bond i is v / 256, v % 256    4 firing v is of transition i    7 firing i is 0
+//   2 v is 0: there are i bonds     5 firing i has key v             8 firings i and v are exchanged, the keys left
+// Where v is 1, 2 and 3 take i from the highest number.
+use firings::Firings;
+use marking::Marking;
 use session::Record;
-use session_tools::with_key;
 
-pub fn with_place(r: Record, base: usize, place: u8) -> Record {
-    let mut next = r;
-    let mut m = r.marking;
-    if base < 64 {
-        m.places[base] = place;
+fn number_of(i: usize, v: u64) -> usize {
+    if v == 0 { i } else { 18446744073709551615 - i }
+}
+
+fn edited_marking(old: Marking, field: u64, i: usize, v: u64) -> Marking {
+    let mut m = old;
+    if field == 0 {
+        m.places[i % 64] = (v % 256) as u8;
+        return m;
     }
-    next.marking = m;
-    next
-}
-
-pub fn with_bond(r: Record, i: usize, lo: u8, hi: u8) -> Record {
-    let mut next = r;
-    let mut m = r.marking;
-    if i < 2016 {
-        m.lo[i] = lo;
-        m.hi[i] = hi;
+    if field == 1 {
+        let at = i % 2016;
+        m.lo[at] = (v / 256 % 256) as u8;
+        m.hi[at] = (v % 256) as u8;
+        return m;
     }
-    next.marking = m;
-    next
+    m.count = number_of(i, v);
+    m
 }
 
-pub fn with_bond_count(r: Record, n: usize) -> Record {
-    let mut next = r;
-    let mut m = r.marking;
-    m.count = n;
-    next.marking = m;
-    next
+fn with_firing(old: Firings, i: usize, transition: u8, key: u16, moved: u64) -> Firings {
+    let mut f = old;
+    f.transitions[i % 256] = transition;
+    f.keys[i % 256] = key;
+    f.moved[i % 256] = moved;
+    f
 }
 
-pub fn with_live(r: Record, n: usize) -> Record {
+// The firing at i has the transition and the moved set of the one at j of another list.
+fn taken_from(old: Firings, i: usize, other: Firings, j: usize) -> Firings {
+    let a = i % 256;
+    let b = j % 256;
+    with_firing(old, a, other.transitions[b], old.keys[a], other.moved[b])
+}
+
+fn edited_firings(old: Firings, field: u64, i: usize, v: u64) -> Firings {
+    let a = i % 256;
+    let b = (v % 256) as usize;
+    let mut f = old;
+    if field == 3 {
+        f.live = number_of(i, v);
+        return f;
+    }
+    if field == 4 {
+        f.transitions[b] = (i % 256) as u8;
+        return f;
+    }
+    if field == 5 {
+        f.keys[a] = (v % 65536) as u16;
+        return f;
+    }
+    if field == 6 {
+        f.moved[b] = f.moved[b] ^ (1u64 << (i % 64));
+        return f;
+    }
+    if field == 7 {
+        return with_firing(f, a, 0, 0, 0);
+    }
+    taken_from(taken_from(f, a, old, b), b, old, a)
+}
+
+pub fn edited(r: Record, field: u64, i: usize, v: u64) -> Record {
     let mut next = r;
-    let mut f = r.firings;
-    f.live = n;
+    if field < 3 {
+        let m = edited_marking(r.marking, field, i, v);
+        next.marking = m;
+        return next;
+    }
+    let f = edited_firings(r.firings, field, i, v);
     next.firings = f;
     next
-}
-
-pub fn firing_at(r: Record, i: usize) -> Firing {
-    let f = r.firings;
-    firings::firing_at(&f.transitions, &f.keys, &f.moved, i % 256)
-}
-
-pub fn with_firing(r: Record, i: usize, f: Firing) -> Record {
-    let mut next = r;
-    let mut all = r.firings;
-    let at = i % 256;
-    all.transitions[at] = f.transition;
-    all.keys[at] = f.key.0;
-    all.moved[at] = f.moved;
-    next.firings = all;
-    next
-}
-
-pub fn with_transition(r: Record, i: usize, t: u8) -> Record {
-    let mut f = firing_at(r, i);
-    f.transition = t;
-    with_firing(r, i, f)
-}
-
-// The keys of the first three firings.
-pub fn with_keys(r: Record, a: u16, b: u16, c: u16) -> Record {
-    with_key(with_key(with_key(r, 0, a), 1, b), 2, c)
-}
-
-// A base put into a moved set, or taken out of it: its bit turned over.
-pub fn with_flag(r: Record, i: usize, base: usize) -> Record {
-    let mut f = firing_at(r, i);
-    f.moved = f.moved ^ (1u64 << (base % 64));
-    with_firing(r, i, f)
-}
-
-// Two firings exchanged, the keys left where they were.
-pub fn with_exchange(r: Record, i: usize, j: usize) -> Record {
-    let f = firing_at(r, i);
-    let g = firing_at(r, j);
-    let a = f.key.0;
-    let b = g.key.0;
-    let s = with_firing(with_firing(r, i, g), j, f);
-    with_key(with_key(s, i, a), j, b)
 }

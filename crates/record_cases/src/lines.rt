@@ -1,78 +1,69 @@
 // The answer line into lent buffers (document 01, the turned-away list, 22; the exam program).
 // A buffer of 23 bytes is refused, one of 24 is written to.
 use case_tools::bytes::byte;
-use command_case::Case;
-use command_case::counted;
 use net::Key;
+use oracle::sets::get;
 use report::answer_line;
 use session::Answer;
 
+// The letter that a row writes for a byte of the line: `_` is a space, `/` the newline. Letter 0 is the colon before them.
+fn expected(letters: &[u8], i: usize) -> u8 {
+    let b = byte(letters, i);
+    if i == 0 {
+        return b;
+    }
+    if b == b'_' {
+        return b' ';
+    }
+    if b == b'/' { b'\n' } else { b }
+}
+
 // The buffer's bytes are those of the line, and from there on `#`, as it was before.
-fn holds(buf: &[u8], line: &[u8]) -> bool {
+fn holds(buf: &[u8], letters: &[u8]) -> bool {
     let n = buf.len();
-    let written = line.len();
     let mut ok = true;
     let mut i: usize = 0;
     while i < n {
-        let expected = if i < written { byte(line, i) } else { b'#' };
-        ok = ok & (byte(buf, i) == expected);
+        let b = expected(letters, i + 1);
+        ok = ok & (byte(buf, i) == if b == 0 { b'#' } else { b });
         i += 1;
     }
     ok
 }
 
-// The line is to have these bytes, or is refused by 22 and the buffer stays.
-fn lined(
-    c: Case,
-    buf: &mut [u8],
-    number: u32,
-    a: Answer,
-    key: u16,
-    line: &[u8],
-    refusal: u8,
-) -> Case {
-    let w = answer_line(buf, number, a, Key(key));
-    let same = holds(buf, line);
-    let ok = same & ((w.refusal == refusal) & (w.length == line.len()));
-    counted(c, ok)
+fn answer_of(word: u64, number: u64) -> Answer {
+    if word == 0 {
+        return Answer::Fired;
+    }
+    if word == 1 {
+        return Answer::Undone;
+    }
+    Answer::Refused((number % 256) as u8)
 }
 
-// Buffers of 0, 23, 24 and 25 bytes; the longest line has 24. A refusal's line has its number, not the key.
-pub fn lines(begun: Case) -> Case {
-    let mut none = [b'#'; 0];
-    let mut short = [b'#'; 23];
-    let mut c = lined(begun, &mut none, 1, Answer::Fired, 1, b"", 22);
-    c = lined(c, &mut short, 1, Answer::Fired, 1, b"", 22);
-    let mut exact = [b'#'; 24];
-    c = lined(c, &mut exact, 1, Answer::Fired, 1, b"1 fired 1\n", 0);
-    let mut exact2 = [b'#'; 24];
-    c = lined(
-        c,
-        &mut exact2,
-        4294967295,
-        Answer::Undone,
-        65535,
-        b"4294967295 undone 65535\n",
-        0,
-    );
-    let mut long = [b'#'; 25];
-    c = lined(
-        c,
-        &mut long,
-        4294967295,
-        Answer::Undone,
-        65535,
-        b"4294967295 undone 65535\n",
-        0,
-    );
-    let mut long2 = [b'#'; 25];
-    lined(
-        c,
-        &mut long2,
-        65535,
-        Answer::Refused(19),
-        7,
-        b"65535 refused 19\n",
-        0,
-    )
+// The line is to have these letters, or is refused and the buffer stays. Numbers of the row: 3 the command's, 4 the word, 5 the
+// refusal's, 6 the key, 7 what the line is refused by.
+fn is_lined(buf: &mut [u8], letters: &[u8], w: &[u64]) -> bool {
+    let key = Key((get(w, 6) % 65536) as u16);
+    let a = answer_of(get(w, 4), get(w, 5));
+    let done = answer_line(buf, (get(w, 3) % 4294967296) as u32, a, key);
+    let length = done.length;
+    let as_long = (length < 1000) & (letters.len() == length % 1000 + 1);
+    let same = (done.refusal as u64 == get(w, 7)) & as_long;
+    same & holds(buf, letters)
+}
+
+// In the first bytes of a buffer, so many as number 2 says.
+fn lined_in(buf: &mut [u8], letters: &[u8], w: &[u64]) -> bool {
+    let n = (get(w, 2) % 4294967296) as usize;
+    if n <= buf.len() {
+        is_lined(&mut buf[0..n], letters, w)
+    } else {
+        false
+    }
+}
+
+pub fn lined(letters: &[u8], w: &[u64]) -> bool {
+    let mut room = [b'#'; 25];
+    lined_in(&mut room, letters, w)
 }

@@ -1,36 +1,65 @@
 // Records handed in: altered, of another sheet, with raised serials; tallies near their limit; answer lines into lent buffers.
-// By the customer's calls; what each is to be answered was worked out from document 01. Prints how many of a group were run,
-// and how many differed.
-mod altered;
-mod edits;
-mod handed;
-mod keys;
-mod lines;
+// By the customer's calls; what each is to be answered was worked out from document 01. What is run stands in the file stdin, a row
+// for each step of a case (generated, rows). A row with a name ends its group: how many were run and how many differed is printed.
+ghost use Prim.Native.Nat.{_≤_, _<_};
 
-use altered::tried;
-use command_case::Case;
-use command_case::FIRED;
-use command_case::UNDONE;
-use command_case::begun;
-use command_case::command;
-use command_case::counted;
-use command_case::given;
-use command_case::on;
-use command_case::print;
-use edits::with_transition;
+mod case;
+mod edits;
+mod lines;
+mod same;
+
+use case::Case;
+use case::counted;
+use case::given;
+use case::with_record;
+use case_tools::bytes::byte;
+use case_tools::bytes::put;
+use case_tools::bytes::put_all;
+use case_tools::print::print_run;
+use edits::edited;
+use generated::rows::find;
+use generated::rows::part;
+use generated::rows::read_numbers;
+use lines::lined;
+use oracle::sets::get;
 use samples::sheet_a;
 use samples::sheet_b;
+use session::Record;
+use session_start::start;
 use tally::Tally;
 
-// The record after M1, M2 and M4, with nothing counted.
-fn after_m4(b: &[u8]) -> Case {
-    let m1 = command(begun(b), b, 1, 0, FIRED, 1);
-    let m2 = command(m1, b, 1, 1, FIRED, 2);
-    let m4 = command(m2, b, 1, 2, FIRED, 3);
-    on(m4.session)
+// Four sheets in one lent buffer, 256 bytes each, of which the last is the length. Sheet 2 has two parts at 0, and steps 0 and 1
+// alike (part 0 from 0 to 1), so that one may stand for the other; its step 2 is part 1 from 0 to 0. Of sheet 3 (the desk's script
+// fire_12_to_16.txt has it in words) the steps 0 to 9 are refused by 13 to 16; 10 moves parts 0 and 1, 11 moves 2 and 3.
+fn lay_sheet(all: &mut [u8], k: usize, sheet: &[u8])
+    requires { ⌜ k ≤ 3 ⌝ }
+{
+    put_all(all, 256 * k, sheet);
+    put(all, 256 * k + 255, (sheet.len() % 256) as u64);
 }
 
-// Three counts at one number.
+fn lay_sheets(all: &mut [u8]) {
+    let a = sheet_a();
+    let b = sheet_b();
+    lay_sheet(all, 0, &a);
+    lay_sheet(all, 1, &b);
+    lay_sheet(
+        all,
+        2,
+        b"\x01\x02\x02\x03\x18\x00\x02\x00\x1a\x00\x00\x00\x1a\x00\x06\x00\x20\x00\x06\x00\x26\x00\x06\x00\x00\x00\x01\x00\x00\x01\x00\x00\x01\x00\x00\x01\x00\x00\x01\x01\x00\x00\x00\x00",
+    );
+    lay_sheet(
+        all,
+        3,
+        b"\x01\x03\x04\x0c\x3c\x00\x04\x00\x40\x00\x04\x00\x44\x00\x0d\x00\x51\x00\x15\x00\x66\x00\x11\x00\x77\x00\x0e\x00\x85\x00\x0c\x00\x91\x00\x10\x00\xa1\x00\x0b\x00\xac\x00\x09\x00\xb5\x00\x06\x00\xbb\x00\x0d\x00\xc8\x00\x06\x00\xce\x00\x06\x00\x00\x00\x00\x00\x00\x01\x02\x03\x02\x00\x01\x01\x02\x01\x01\x01\x00\x02\x01\x00\x02\x04\x00\x00\x00\x01\x00\x00\x02\x00\x00\x03\x00\x00\x01\x00\x02\x02\x00\x02\x02\x03\x04\x00\x00\x01\x01\x00\x02\x02\x00\x00\x03\x00\x00\x00\x01\x02\x03\x03\x01\x01\x00\x02\x00\x00\x03\x00\x00\x00\x01\x02\x03\x03\x00\x00\x01\x01\x00\x02\x03\x01\x01\x00\x00\x03\x00\x00\x01\x01\x00\x02\x02\x00\x01\x01\x00\x02\x01\x00\x02\x02\x02\x00\x00\x03\x00\x00\x00\x01\x02\x03\x02\x00\x00\x01\x01\x00\x02\x00\x00\x01\x03\x01\x00\x00\x00\x02\x00\x00\x00\x02\x00\x00\x01\x00\x02\x01\x00\x02\x01\x00\x00\x00\x00\x00\x01\x02\x00\x00\x00\x00",
+    );
+}
+
+fn sheet_at<'a>(all: &'a [u8], k: u64) -> &'a [u8] {
+    let from = (k % 4 * 256) as usize;
+    part(all, from, from + byte(all, from + 255) as usize)
+}
+
 fn tally_of(n: u16) -> Tally {
     Tally {
         fired: n,
@@ -39,86 +68,191 @@ fn tally_of(n: u16) -> Tally {
     }
 }
 
-fn with_tally(c: Case, t: Tally) -> Case {
+// Row 0: a fresh session on a sheet; where it is refused a record of zeros. The counts stay.
+fn begun(c: Case, sheet: &[u8]) -> Case {
+    let first = start(sheet);
+    let r = first.session;
+    Case {
+        session: r,
+        own: r,
+        tally: tally_of(0),
+        run: c.run,
+        differed: c.differed,
+    }
+}
+
+// Row 1: what was run so far leads to the record that edits begin with, and is not counted.
+fn marked(c: Case) -> Case {
+    let r = c.session;
+    Case {
+        session: r,
+        own: r,
+        tally: tally_of(0),
+        run: 0,
+        differed: 0,
+    }
+}
+
+// Row 2: on sheet 2 a command of 3 bytes, its kind 4 and number 5, is answered by code 6 with key 7, and so on to key 8.
+fn commanded(first: Case, all: &[u8], w: &[u64]) -> Case {
+    let number = get(w, 5);
+    let bytes = [
+        (get(w, 4) % 256) as u8,
+        (number % 256) as u8,
+        (number / 256 % 256) as u8,
+    ];
+    let command = part(&bytes, 0, (get(w, 3) % 4) as usize);
+    let to = get(w, 8) % 65536 + 1;
+    let mut c = first;
+    let mut key = get(w, 7);
+    while key < to {
+        c = given(c, sheet_at(all, get(w, 2)), command, get(w, 6), key);
+        key += 1;
+    }
+    c
+}
+
+// A taking back of the last on an altered record.
+fn tried(c: Case, r: Record, all: &[u8], w: &[u64], i: u64) -> Case {
+    let next = edited(r, get(w, 2), (i % 4294967296) as usize, get(w, 5));
+    given(
+        with_record(c, next),
+        sheet_at(all, get(w, 6)),
+        b"\x02\x00\x00",
+        get(w, 7),
+        get(w, 8),
+    )
+}
+
+// Row 4: the record as it is, with edit 2 at each index from 3 to 4 with value 5; on sheet 6 a taking back of the last is answered
+// by code 7 with key 8. A record that is still sound is answered `undone` with its last serial, any other 10. Then the record is the
+// one that edits begin with.
+fn each_tried(first: Case, all: &[u8], w: &[u64]) -> Case {
+    let r = first.session;
+    let to = get(w, 4) % 65536 + 1;
+    let mut c = first;
+    let mut i = get(w, 3);
+    while i < to {
+        c = tried(c, r, all, w, i);
+        i += 1;
+    }
+    with_record(c, first.own)
+}
+
+// Row 3: an edit, which stays.
+fn altered(c: Case, w: &[u64]) -> Case {
+    let r = edited(
+        c.session,
+        get(w, 2),
+        (get(w, 3) % 4294967296) as usize,
+        get(w, 4),
+    );
+    with_record(c, r)
+}
+
+// Row 5: three counts at one number.
+fn with_tally(c: Case, n: u16) -> Case {
     let mut next = c;
-    next.tally = t;
+    next.tally = tally_of(n);
     next
 }
 
-fn is_tally(t: Tally, fired: u16, undone: u16, refused: u16) -> bool {
-    (t.fired == fired) & ((t.undone == undone) & (t.refused == refused))
+// Row 6: the tally has these counts.
+fn is_tally(t: Tally, w: &[u64]) -> bool {
+    let fired = t.fired as u64 == get(w, 2);
+    let undone = t.undone as u64 == get(w, 3);
+    fired & (undone & (t.refused as u64 == get(w, 4)))
 }
 
-// Counts at 65,534 go to 65,535, each by its own command, and stay there. Step 2 of sheet B always fires, and no firing
-// has serial 9.
-fn tallies(b: &[u8]) -> Case {
-    let mut c = with_tally(begun(b), tally_of(65534));
-    c = command(c, b, 1, 2, FIRED, 1);
-    c = counted(c, is_tally(c.tally, 65535, 65534, 65534));
-    c = command(c, b, 1, 2, FIRED, 2);
-    c = counted(c, is_tally(c.tally, 65535, 65534, 65534));
-    c = command(c, b, 3, 9, 19, 0);
-    c = counted(c, is_tally(c.tally, 65535, 65534, 65535));
-    c = command(c, b, 3, 9, 19, 0);
-    c = counted(c, is_tally(c.tally, 65535, 65534, 65535));
-    c = command(c, b, 2, 0, UNDONE, 2);
-    c = counted(c, is_tally(c.tally, 65535, 65535, 65535));
-    c = command(c, b, 2, 0, UNDONE, 1);
-    c = counted(c, is_tally(c.tally, 65535, 65535, 65535));
-    // what cannot be read and what is cut short add to refused alone
-    c = with_tally(c, tally_of(7));
-    c = command(c, b, 9, 0, 11, 0);
-    c = given(c, b, b"\x01", 21, 0);
-    counted(c, is_tally(c.tally, 7, 7, 9))
+// Row 7: a command on the first bytes of sheet 2, so many as 3 says, the byte at 4 changed to 5, is answered by the sheet's number, 6.
+fn on_damaged(c: Case, all: &[u8], w: &[u64]) -> Case {
+    let mut room = [0u8; 256];
+    put_all(&mut room, 0, sheet_at(all, get(w, 2)));
+    put(&mut room, (get(w, 4) % 256) as usize, get(w, 5));
+    let sheet = part(&room, 0, (get(w, 3) % 256) as usize);
+    given(c, sheet, b"\x01\x00\x00", get(w, 6), 0)
 }
 
-fn on_b(b: &[u8]) {
-    let c = after_m4(b);
-    print(b"places", altered::places(c, b));
-    print(b"couplings", altered::bonds(c, b));
-    print(b"live", altered::live(c, b));
-    print(b"steps", altered::transitions(c, b));
-    print(b"serials", altered::keys(c, b));
-    print(b"moved parts and order", altered::moved(c, b));
-    print(b"tallies", tallies(b));
+fn stepped(c: Case, all: &[u8], letters: &[u8], w: &[u64]) -> Case {
+    let kind = get(w, 1);
+    if kind == 0 {
+        return begun(c, sheet_at(all, get(w, 2)));
+    }
+    if kind == 1 {
+        return marked(c);
+    }
+    if kind == 2 {
+        return commanded(c, all, w);
+    }
+    if kind == 3 {
+        return altered(c, w);
+    }
+    if kind == 4 {
+        return each_tried(c, all, w);
+    }
+    if kind == 5 {
+        return with_tally(c, (get(w, 2) % 65536) as u16);
+    }
+    if kind == 6 {
+        return counted(c, is_tally(c.tally, w));
+    }
+    if kind == 7 {
+        return on_damaged(c, all, w);
+    }
+    counted(c, lined(letters, w))
 }
 
-// Sheet D has two parts at 0, and steps 0 and 1 alike (part 0 from 0 to 1), so that one may stand for the other; step 2 is
-// part 1 from 0 to 0.
-fn on_d(d: &[u8]) {
-    let fired = command(begun(d), d, 1, 0, FIRED, 1);
-    let r = fired.session;
-    let mut c = on(r);
-    c = tried(c, d, with_transition(r, 0, 1), UNDONE, 1);
-    c = tried(c, d, with_transition(r, 0, 2), 10, 0);
-    print(b"a step for its like", c);
+fn printed(c: Case, name: &[u8]) -> Case {
+    if name.len() == 0 {
+        return c;
+    }
+    print_run(name, c.run as u64, c.differed as u64);
+    marked(c)
 }
 
-// Records of another sheet, and on damaged ones.
-fn on_both(a: &[u8], b: &[u8]) {
-    let fired = command(begun(b), b, 1, 0, FIRED, 1);
-    let r = fired.session;
-    print(b"1 to 9 before 10", handed::sheets(on(r), a, b));
-    print(b"10 before 11 to 21", handed::records(a, b));
+fn read_row(c: Case, all: &[u8], line: &[u8]) -> Case {
+    let colon = find(line, 0, b':');
+    let space = find(line, colon, b' ');
+    let mut w = [0u64; 16];
+    read_numbers(&mut w, part(line, space, line.len()));
+    let next = stepped(c, all, part(line, colon, space), &w);
+    printed(next, part(line, 0, colon))
 }
 
-// Sheet P, 212 bytes: pairs from 4, start places from 60, start couplings from 64, steps from 68, 81, 102, 119, 133, 145,
-// 161, 172, 181, 187, 200, 206.
-fn on_p(p: &[u8]) {
-    print(b"serial 65,535, 18", keys::last_key(p));
-    print(b"17 before 18", keys::both(p));
-    print(b"lines, 22", lines::lines(begun(p)));
+// The position after one that is before the end.
+fn after(end: usize, n: usize) -> usize
+    requires { ⌜ end < n ⌝ }
+    ensures { λ r. ⌜ (end < r) × (r ≤ n) ⌝ }
+{
+    end + 1
+}
+
+fn read_rows(all: &[u8], text: &[u8]) {
+    let first = start(sheet_at(all, 1));
+    let r = first.session;
+    let mut c = Case {
+        session: r,
+        own: r,
+        tally: tally_of(0),
+        run: 0,
+        differed: 0,
+    };
+    let n = text.len();
+    let mut at: usize = 0;
+    while at < n {
+        let end = find(text, at, b'\n');
+        c = read_row(c, all, part(text, at, end));
+        if n <= end {
+            return;
+        }
+        at = after(end, n);
+    }
 }
 
 fn main() {
-    let a = sheet_a();
-    let b = sheet_b();
-    on_b(&b);
-    on_both(&a, &b);
-    on_d(
-        b"\x01\x02\x02\x03\x18\x00\x02\x00\x1a\x00\x00\x00\x1a\x00\x06\x00\x20\x00\x06\x00\x26\x00\x06\x00\x00\x00\x01\x00\x00\x01\x00\x00\x01\x00\x00\x01\x00\x00\x01\x01\x00\x00\x00\x00",
-    );
-    on_p(
-        b"\x01\x03\x04\x0c\x3c\x00\x04\x00\x40\x00\x04\x00\x44\x00\x0d\x00\x51\x00\x15\x00\x66\x00\x11\x00\x77\x00\x0e\x00\x85\x00\x0c\x00\x91\x00\x10\x00\xa1\x00\x0b\x00\xac\x00\x09\x00\xb5\x00\x06\x00\xbb\x00\x0d\x00\xc8\x00\x06\x00\xce\x00\x06\x00\x00\x00\x00\x00\x00\x01\x02\x03\x02\x00\x01\x01\x02\x01\x01\x01\x00\x02\x01\x00\x02\x04\x00\x00\x00\x01\x00\x00\x02\x00\x00\x03\x00\x00\x01\x00\x02\x02\x00\x02\x02\x03\x04\x00\x00\x01\x01\x00\x02\x02\x00\x00\x03\x00\x00\x00\x01\x02\x03\x03\x01\x01\x00\x02\x00\x00\x03\x00\x00\x00\x01\x02\x03\x03\x00\x00\x01\x01\x00\x02\x03\x01\x01\x00\x00\x03\x00\x00\x01\x01\x00\x02\x02\x00\x01\x01\x00\x02\x01\x00\x02\x02\x02\x00\x00\x03\x00\x00\x00\x01\x02\x03\x02\x00\x00\x01\x01\x00\x02\x00\x00\x01\x03\x01\x00\x00\x00\x02\x00\x00\x00\x02\x00\x00\x01\x00\x02\x01\x00\x02\x01\x00\x00\x00\x00\x00\x01\x02\x00\x00\x00\x00",
-    );
+    let mut all = [0u8; 1024];
+    lay_sheets(&mut all);
+    let mut text = io::large_buffer();
+    let n = io::read_full(0, &mut text);
+    read_rows(&all, &text[..n]);
 }

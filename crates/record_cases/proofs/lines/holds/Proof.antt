@@ -6,19 +6,22 @@ use Rattle.record_cases.proofs.lines.holds.Statement.{statement}
 use Rattle.record_cases.proofs.lines.holds.Tie as tie
 
 abbrev Inv-loop : tie.InvT-loop
-Inv-loop buf line n written ok₀ i₀ ok i = i ≤ n
+Inv-loop buf letters n ok₀ i₀ ok i = i ≤ n
 
 abbrev μ-loop : tie.MeasureT-loop
-μ-loop buf line n written ok₀ i₀ ok i = n - i
+μ-loop buf letters n ok₀ i₀ ok i = n - i
 
 loop-holds : tie.Need-loop-holds Inv-loop μ-loop
 loop-holds c = search needs
 
+add-expected : tie.Need-add-expected Inv-loop μ-loop
+add-expected c = search needs
+
+expected-requires : tie.Need-expected-requires Inv-loop μ-loop
+expected-requires c κs = search needs
+
 byte-requires : tie.Need-byte-requires Inv-loop μ-loop
 byte-requires c κs = search needs
-
-byte-requires-2 : tie.Need-byte-requires-2 Inv-loop μ-loop
-byte-requires-2 c κs = search needs
 
 add-i : tie.Need-add-i Inv-loop μ-loop
 add-i c = search needs
@@ -39,8 +42,9 @@ holds-spec =
     Inv-loop
     μ-loop
     loop-holds
+    add-expected
+    expected-requires
     byte-requires
-    byte-requires-2
     add-i
     loop-less
     loop-again

@@ -1,0 +1,63 @@
+-- `record_cases::same::same_marking` meets its contract. The counter stays within its bound.
+-- Assumes nothing.
+use borrow.Author.Needs.{needs}
+use Prim.Native.Nat.{_-_, _≤_}
+use Rattle.record_cases.proofs.same.same_marking.Statement.{statement}
+use Rattle.record_cases.proofs.same.same_marking.Tie as tie
+
+abbrev Inv-loop : tie.InvT-loop
+Inv-loop a b ok₀ i₀ ok i = i ≤ 2016
+
+abbrev μ-loop : tie.MeasureT-loop
+μ-loop a b ok₀ i₀ ok i = 2016 - i
+
+loop-holds : tie.Need-loop-holds Inv-loop μ-loop
+loop-holds c = search needs
+
+element-copy-out-ok : tie.Need-element-copy-out-ok Inv-loop μ-loop
+element-copy-out-ok c = search needs
+
+element-copy-out-ok-2 : tie.Need-element-copy-out-ok-2 Inv-loop μ-loop
+element-copy-out-ok-2 c = search needs
+
+element-copy-out-ok-3 : tie.Need-element-copy-out-ok-3 Inv-loop μ-loop
+element-copy-out-ok-3 c = search needs
+
+element-copy-out-ok-4 : tie.Need-element-copy-out-ok-4 Inv-loop μ-loop
+element-copy-out-ok-4 c = search needs
+
+element-copy-out-ok-5 : tie.Need-element-copy-out-ok-5 Inv-loop μ-loop
+element-copy-out-ok-5 c = search needs
+
+element-copy-out-ok-6 : tie.Need-element-copy-out-ok-6 Inv-loop μ-loop
+element-copy-out-ok-6 c = search needs
+
+add-i : tie.Need-add-i Inv-loop μ-loop
+add-i c = search needs
+
+loop-less : tie.Need-loop-less Inv-loop μ-loop
+loop-less c = search needs
+
+loop-again : tie.Need-loop-again Inv-loop μ-loop
+loop-again c = search needs
+
+returns : tie.Need-returns Inv-loop μ-loop
+returns c = search needs
+
+pub same-marking-spec : {M : Type 1} → statement M
+same-marking-spec =
+    tie.close
+    (tie.spec
+    Inv-loop
+    μ-loop
+    loop-holds
+    element-copy-out-ok
+    element-copy-out-ok-2
+    element-copy-out-ok-3
+    element-copy-out-ok-4
+    element-copy-out-ok-5
+    element-copy-out-ok-6
+    add-i
+    loop-less
+    loop-again
+    returns)
