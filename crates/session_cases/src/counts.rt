@@ -21,20 +21,8 @@ pub const SHEETS_REFUSED: usize = 14;
 
 // Takings back of a firing that was not the last; firings that carried a base which is no entry, of a transition that has
 // an in-bond, on a sheet with 64 of everything; firings that made 256 live; firings that were given key 65,535; commands after
-// which a count of the tally is 65,535.
+// which a count of the tally is 65,535: 15 to 21.
 const MIDDLE: usize = 15;
-
-const CARRIED: usize = 16;
-
-const COUPLED: usize = 17;
-
-const FULL_SIZE: usize = 18;
-
-const MOST_LIVE: usize = 19;
-
-const LAST_KEY: usize = 20;
-
-const FULL_COUNT: usize = 21;
 
 // Bytes of all outputs.
 pub const BYTES: usize = 22;
@@ -60,18 +48,6 @@ fn is_full_size(sheet: &[u8]) -> bool {
     (count(sheet, 1) == 64) & ((count(sheet, 2) == 64) & (count(sheet, 3) == 64))
 }
 
-// After a firing of that key: what it reached.
-fn count_firing(c: &mut [u64], sheet: &[u8], s: &[u64], key: u64) {
-    let slot = slot_of(s, key);
-    let t = transition_at(s, slot);
-    let carried = less(moved_at(s, slot), arc_bases(sheet, t)) != 0;
-    more(c, CARRIED, 1, carried);
-    more(c, COUPLED, 1, count(sheet, in_bonds(sheet, t)) != 0);
-    more(c, FULL_SIZE, 1, is_full_size(sheet));
-    more(c, MOST_LIVE, 1, oracle::live(s) == 256);
-    more(c, LAST_KEY, 1, key == 65535);
-}
-
 // Where an answer is counted.
 fn row_of(reply: u64) -> usize {
     let word = reply / 65536;
@@ -93,23 +69,36 @@ fn is_full(s: &[u64], word: u64) -> bool {
     tally_at(s, word) == 65535
 }
 
-// One more command, with the second engine's reply and its state afterwards. A taking back was from the middle where a higher
-// key is left.
+// What a command met, in the order of the counts from MIDDLE on. A taking back was from the middle where a higher key is left.
+fn met_by(sheet: &[u8], s: &[u64], word: u64, key: u64) -> [bool; 7] {
+    let slot = slot_of(s, key);
+    let t = transition_at(s, slot);
+    let fired = word == FIRED;
+    [
+        (word == UNDONE) & (key < highest(s)),
+        fired & (less(moved_at(s, slot), arc_bases(sheet, t)) != 0),
+        fired & (count(sheet, in_bonds(sheet, t)) != 0),
+        fired & is_full_size(sheet),
+        fired & (oracle::live(s) == 256),
+        fired & (key == 65535),
+        is_full(s, 0) | (is_full(s, 1) | is_full(s, 2)),
+    ]
+}
+
+fn count_met(c: &mut [u64], met: [bool; 7]) {
+    let mut i: usize = 0;
+    while i < 7 {
+        more(c, MIDDLE + i, 1, met[i]);
+        i += 1;
+    }
+}
+
+// One more command, with the second engine's reply and its state afterwards.
 pub fn count_command(c: &mut [u64], sheet: &[u8], s: &[u64], reply: u64) {
-    let word = reply / 65536;
-    let key = reply % 65536;
+    let met = met_by(sheet, s, reply / 65536, reply % 65536);
     more(c, RUN, 1, true);
     more(c, row_of(reply), 1, true);
-    more(c, MIDDLE, 1, (word == UNDONE) & (key < highest(s)));
-    more(
-        c,
-        FULL_COUNT,
-        1,
-        is_full(s, 0) | (is_full(s, 1) | is_full(s, 2)),
-    );
-    if word == FIRED {
-        count_firing(c, sheet, s, key);
-    }
+    count_met(c, met);
 }
 
 fn keep(c: &mut [u64], seed: u64, number: u64, ours: u64, theirs: u64, what: u64) {

@@ -9,12 +9,19 @@ use case_tools::bytes::put;
 use case_tools::bytes::put_all;
 use generated::commands::command_byte;
 use generated::commands::command_of;
+use generated::rows::part;
 use oracle::STATE;
 
 // Where the text begins.
 pub const TEXT: usize = 40000;
 
-// Command i by lot, of which so many bytes are given: its bytes go to the input, its line to the text.
+// A command's bytes, given to the second engine; its line goes to the text.
+fn answered(buf: &mut [u8], at: usize, sheet: &[u8], s: &mut [u64], bytes: &[u8], i: u64) -> usize {
+    let reply = oracle::command(sheet, bytes, s);
+    put_line(buf, at, i % 65536 + 1, reply)
+}
+
+// Command i by lot, of which so many bytes are given: its bytes go to the input.
 fn advanced(
     buf: &mut [u8],
     at: usize,
@@ -25,13 +32,12 @@ fn advanced(
     room: u64,
     size: usize,
 ) -> usize
-    requires { ⌜ (size ≤ 3) × (i ≤ 65536) ⌝ }
+    requires { ⌜ i ≤ 65536 ⌝ }
 {
     let g = command_of(sheet, s, seed, i, room);
     let bytes = [command_byte(g, 0), command_byte(g, 1), command_byte(g, 2)];
     put_all(buf, sheet.len() % 65536 + 2 + 3 * i as usize, &bytes);
-    let reply = oracle::command(sheet, &bytes[0..size], s);
-    put_line(buf, at, i + 1, reply)
+    answered(buf, at, sheet, s, part(&bytes, 0, size), i)
 }
 
 // How many bytes of a command are given: of the last one, 3, 1 or 2.

@@ -137,14 +137,18 @@ fn print_end(text: &[u8]) {
     }
 }
 
+fn print_output(input: &[u8]) {
+    let mut out = output_room();
+    let length = write_output(input, &mut out);
+    print_end(part(&out, 0, length));
+}
+
 // How many commands the program reads (document 01, the exam program): sheet A and bytes that cannot be read, so many in all.
 pub fn print_limit(name: &[u8], n: usize) {
-    let mut input = unreadable();
     let front = printed_input();
+    let mut input = unreadable();
     put_all(&mut input, 0, part(&front, 0, 42));
-    let mut out = output_room();
-    let length = write_output(part(&input, 0, n), &mut out);
     io::write_all(1, name);
     io::write_all(1, b": ");
-    print_end(part(&out, 0, length));
+    print_output(part(&input, 0, n));
 }
