@@ -23,7 +23,7 @@ use Rattle.session.specs.Runs.{Answered}
 use Rattle.session.specs.declared.Answer.{Answer}
 use Rattle.session.specs.declared.Answer.the-variants.{Fired, Undone, Refused}
 use Rattle.session.specs.Commands.{wordOf, valueOf}
-use Rattle.runs.specs.Lists.{lowRefusal}
+use Rattle.session.specs.Lists.{lowRefusal}
 use Rattle.report.specs.Lines.{answerLine, toldLine, LowValue}
 use Rattle.output.specs.Output.{sheetRefused, refusedSheet}
 use Rattle.output.specs.Said.{lineAt, LowValues}

@@ -34,9 +34,10 @@ use Rattle.session.specs.declared.Record.{Record}
 use Rattle.session.proofs.Steps.{follows-fresh, held-back}
 use Rattle.session.proofs.Sounds.{live-few}
 use Rattle.session.proofs.Begins.{fresh-sound}
-use Rattle.runs.specs.Lists.{howMany, commandAt, commandsIn, lowRefusal, wordsOf, valuesOf, ranOf, RunGives}
-use Rattle.runs.proofs.Turns.{length-map, run-length, ran-sound}
-use Rattle.runs.proofs.Values.{all-low}
+use Rattle.command_list.specs.Commands.{howMany, commandAt, commandsIn}
+use Rattle.session.specs.Lists.{lowRefusal, wordsOf, valuesOf, ranOf, RunGives}
+use Rattle.session.proofs.Turns.{length-map, run-length, ran-sound}
+use Rattle.session.proofs.Values.{all-low}
 use Rattle.report.specs.Lines.{toldLine}
 use Rattle.output.specs.Output.{answerLines, tallied, closingOf, sessionText}
 use Rattle.output.specs.Said.{lineAt, linesUpto, LowValues}

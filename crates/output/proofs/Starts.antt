@@ -17,7 +17,7 @@ use Rattle.session.specs.Commands.{freshOf, zeroRecord, startOf}
 use Rattle.session.specs.declared.StartAnswer.{StartAnswer}
 use Rattle.session.specs.declared.StartAnswer.the-variants.{Started, NotStarted}
 use Rattle.session.specs.declared.Start.{Start}
-use Rattle.runs.specs.Lists.{commandsIn}
+use Rattle.command_list.specs.Commands.{commandsIn}
 use Rattle.output.specs.Output.{maxCommands, sheetIn, commandBytes, refusedSheet, sessionText, output}
 
 isStarted : StartAnswer → Bool

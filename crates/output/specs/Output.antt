@@ -17,7 +17,7 @@ use Rattle.text.specs.Decimal.{decimal}
 use Rattle.text.specs.Ascii.{ascii}
 use Rattle.closing.specs.Closing.{placesLine, bondLines, liveLine, tallyLine}
 use Rattle.session.specs.Commands.{answerOf, keyOf, wordOf}
-use Rattle.runs.specs.Lists.{commandsIn}
+use Rattle.command_list.specs.Commands.{commandsIn}
 use Rattle.report.specs.Lines.{toldLine}
 
 -- ---- The input: the sheet's length in two bytes, the sheet, the commands

@@ -8,6 +8,9 @@ pub mod Fits
 pub mod Fires
 pub mod Undoes
 pub mod Steps
+pub mod Stays
+pub mod Turns
+pub mod Values
 pub mod Answering
 pub mod Begins
 pub mod Answers

@@ -4,3 +4,4 @@ pub mod Commands
 pub mod Lent
 pub mod Live
 pub mod Runs
+pub mod Lists

@@ -1,36 +1,26 @@
 // Commands on the session record (document 01, commands, record, tally): the record goes in by value and comes out.
-// A customer's command checks sheet and record first; the functions in place ask for a sound record.
+// A customer's command checks sheet and record first; what is in place (in_place, run) asks for a sound record.
+mod in_place;
 mod live;
+pub mod run;
 
 ghost use mathlib.Core.Path.{_≡_};
 ghost use Prim.Native.Nat.{_<_};
-ghost use Rattle.bonds.specs.Ends.{bondsIn};
-ghost use Rattle.labels.specs.Labelled.{Labelled};
 ghost use Rattle.session.specs.Records.{Sound};
-ghost use Rattle.session.specs.Commands.{decodedOf, wordOf, valueOf, valueBound, refusal, fireOutcome, undoOutcome, performOf, outcomeFor, Commanded};
-ghost use Rattle.session.specs.Lent.{recordAt, given, refusedIn};
+ghost use Rattle.session.specs.Commands.{decodedOf, wordOf, valueOf, valueBound, refusal, performOf, outcomeFor, Commanded};
+ghost use Rattle.session.specs.Lent.{refusedIn};
 use firings::Firings;
-use firings::built_on;
-use firings::close_up;
-use firings::firing_at;
-use firings::index_of;
-use firings::last_key;
 use format::byte_at;
 use format::word_at;
+use in_place::perform_in;
 use labels::label_in;
 use marking::Marking;
-use net::Base;
 use net::Key;
 use net::MAX_BASES;
-use net::MAX_BONDS;
-use net::MAX_KEY;
-use net::MAX_LIVE;
-use net::Place;
 use net::Transition;
 use sheet::check_sheet;
 use sheet::sheet_number;
 use sound::is_sound;
-use steps::enable_refusal;
 use tally::Tally;
 
 // The session record: a marking, and the live firings in strictly ascending keys. Unused entries hold 0.
@@ -144,192 +134,6 @@ fn refused_in(n: u8, count: usize, live: usize) -> Done
         key: Key(0),
         count: count,
         live: live,
-    }
-}
-
-// Kind 1, in place on the arrays of a record: places, bonds and live firings, and beside them the labels of the bonds.
-// The record is sound and the sheet accepted, here and below: `perform` and a list of commands see to it.
-fn fire_in(
-    sheet: &[u8],
-    t: Transition,
-    places: &mut [Place; MAX_BASES],
-    count: usize,
-    lo: &mut [Base; MAX_BONDS],
-    hi: &mut [Base; MAX_BONDS],
-    live: usize,
-    transitions: &mut [u8; MAX_LIVE],
-    keys: &mut [u16; MAX_LIVE],
-    moved: &mut [u64; MAX_LIVE],
-    l: &mut [Base; MAX_BASES],
-    members: &mut [u64; MAX_BASES],
-) -> Done
-    requires { ⌜
-        Sound (now sheet) (recordAt (now places) count (now lo) (now hi) live (now transitions) (now keys) (now moved))
-        × Labelled (now l) (now members) (bondsIn (now lo) (now hi) count) ⌝ }
-    ensures { λ r. ⌜
-        given r (now (places .exit)) (now (lo .exit)) (now (hi .exit)) (now (transitions .exit)) (now (keys .exit)) (now (moved .exit))
-        ≡ fireOutcome (now (sheet .entry))
-        (recordAt (now (places .entry)) count (now (lo .entry)) (now (hi .entry)) live (now (transitions .entry)) (now (keys .entry)) (now (moved .entry))) t ⌝ }
-    ensures { λ r. ⌜ Labelled (now (l .exit)) (now (members .exit)) (bondsIn (now (lo .exit)) (now (hi .exit)) (r .count)) ⌝ }
-{
-    let refusal = enable_refusal(sheet, places, count, lo, hi, l, t);
-    if refusal != 0 {
-        return refused_in(refusal, count, live);
-    }
-    if MAX_LIVE <= live {
-        return refused_in(17, count, live);
-    }
-    let last = last_key(keys, live);
-    if MAX_KEY <= last.0 {
-        return refused_in(18, count, live);
-    }
-    let fired = steps::fire_in(sheet, places, count, lo, hi, l, members, t);
-    transitions[live] = t.0 as u8;
-    keys[live] = last.0 + 1;
-    moved[live] = fired.moved;
-    Done {
-        answer: Answer::Fired,
-        key: Key(last.0 + 1),
-        count: fired.count,
-        live: live + 1,
-    }
-}
-
-// Kinds 2 and 3 in place, of the firing of that key.
-fn undo_in(
-    sheet: &[u8],
-    key: Key,
-    places: &mut [Place; MAX_BASES],
-    count: usize,
-    lo: &mut [Base; MAX_BONDS],
-    hi: &mut [Base; MAX_BONDS],
-    live: usize,
-    transitions: &mut [u8; MAX_LIVE],
-    keys: &mut [u16; MAX_LIVE],
-    moved: &mut [u64; MAX_LIVE],
-    l: &mut [Base; MAX_BASES],
-    members: &mut [u64; MAX_BASES],
-) -> Done
-    requires { ⌜
-        Sound (now sheet) (recordAt (now places) count (now lo) (now hi) live (now transitions) (now keys) (now moved))
-        × Labelled (now l) (now members) (bondsIn (now lo) (now hi) count) ⌝ }
-    ensures { λ r. ⌜
-        given r (now (places .exit)) (now (lo .exit)) (now (hi .exit)) (now (transitions .exit)) (now (keys .exit)) (now (moved .exit))
-        ≡ undoOutcome (now (sheet .entry))
-        (recordAt (now (places .entry)) count (now (lo .entry)) (now (hi .entry)) live (now (transitions .entry)) (now (keys .entry)) (now (moved .entry))) key ⌝ }
-    ensures { λ r. ⌜ Labelled (now (l .exit)) (now (members .exit)) (bondsIn (now (lo .exit)) (now (hi .exit)) (r .count)) ⌝ }
-{
-    let i = index_of(keys, live, key);
-    if live <= i {
-        return refused_in(19, count, live);
-    }
-    if built_on(moved, live, i) {
-        return refused_in(20, count, live);
-    }
-    let f = firing_at(transitions, keys, moved, i);
-    let left = steps::undo_in(
-        sheet,
-        places,
-        count,
-        lo,
-        hi,
-        l,
-        members,
-        f.transition_of(),
-        f.moved,
-    );
-    close_up(transitions, keys, moved, live, i);
-    Done {
-        answer: Answer::Undone,
-        key: key,
-        count: left,
-        live: live - 1,
-    }
-}
-
-// A command in place, on a sound record and an accepted sheet: nothing of either is checked again. The labels go with the
-// record from command to command: they are those of its bonds before and after.
-pub fn perform_in(
-    sheet: &[u8],
-    bytes: &[u8],
-    places: &mut [Place; MAX_BASES],
-    count: usize,
-    lo: &mut [Base; MAX_BONDS],
-    hi: &mut [Base; MAX_BONDS],
-    live: usize,
-    transitions: &mut [u8; MAX_LIVE],
-    keys: &mut [u16; MAX_LIVE],
-    moved: &mut [u64; MAX_LIVE],
-    l: &mut [Base; MAX_BASES],
-    members: &mut [u64; MAX_BASES],
-) -> Done
-    requires { ⌜
-        Sound (now sheet) (recordAt (now places) count (now lo) (now hi) live (now transitions) (now keys) (now moved))
-        × Labelled (now l) (now members) (bondsIn (now lo) (now hi) count) ⌝ }
-    ensures { λ r. ⌜
-        given r (now (places .exit)) (now (lo .exit)) (now (hi .exit)) (now (transitions .exit)) (now (keys .exit)) (now (moved .exit))
-        ≡ performOf (now (sheet .entry))
-        (recordAt (now (places .entry)) count (now (lo .entry)) (now (hi .entry)) live (now (transitions .entry)) (now (keys .entry)) (now (moved .entry)))
-        (now (bytes .entry)) ⌝ }
-    ensures { λ r. ⌜ Labelled (now (l .exit)) (now (members .exit)) (bondsIn (now (lo .exit)) (now (hi .exit)) (r .count)) ⌝ }
-{
-    if bytes.len() < 3 {
-        return refused_in(21, count, live);
-    }
-    let read = decode(bytes);
-    let Decoded::Given(c) = read else {
-        return refused_in(11, count, live);
-    };
-    match c {
-        Command::Fire(t) => {
-            fire_in(
-                sheet,
-                t,
-                places,
-                count,
-                lo,
-                hi,
-                live,
-                transitions,
-                keys,
-                moved,
-                l,
-                members,
-            )
-        }
-        Command::Undo(k) => {
-            undo_in(
-                sheet,
-                k,
-                places,
-                count,
-                lo,
-                hi,
-                live,
-                transitions,
-                keys,
-                moved,
-                l,
-                members,
-            )
-        }
-        Command::UndoLast => {
-            let k = last_key(keys, live);
-            undo_in(
-                sheet,
-                k,
-                places,
-                count,
-                lo,
-                hi,
-                live,
-                transitions,
-                keys,
-                moved,
-                l,
-                members,
-            )
-        }
     }
 }
 

@@ -3,8 +3,8 @@
 // It is measured by bench/run; what stdout has was printed by the plain Rust program there.
 ghost use Prim.Native.Nat.{_≤_};
 use case_tools::print::print_tally;
+use command_list::command_at;
 use format::word_at;
-use runs::command_at;
 use session::command_with;
 use session_start::start;
 use tally::Tally;

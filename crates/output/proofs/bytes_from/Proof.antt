@@ -1,7 +1,7 @@
 -- `output::bytes_from` meets its contract.
 -- Assumes nothing but the laws of proofs/.
 use borrow.Author.Needs.{needs}
-use Rattle.runs.proofs.Turns.{no-part, cut-part, whole-part}
+use Rattle.command_list.proofs.Parts.{no-part, cut-part, whole-part}
 use Rattle.output.proofs.bytes_from.Statement.{statement}
 use Rattle.output.proofs.bytes_from.Tie as tie
 

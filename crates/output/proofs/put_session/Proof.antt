@@ -4,7 +4,7 @@ use borrow.Author.Needs.{needs}
 use native.Mathlib.Omega.{arith}
 use Prim.Native.Nat.{_≤_}
 use Rattle.sheet.proofs.Accepted.{promised}
-use Rattle.runs.specs.Lists.{howMany}
+use Rattle.command_list.specs.Commands.{howMany}
 use Rattle.output.specs.Output.{maxCommands}
 use Rattle.output.proofs.Sessions.{Ran, starts-sound, values-low, live-low, bonds-low, session-pieces}
 use Rattle.output.proofs.put_session.Statement.{statement}

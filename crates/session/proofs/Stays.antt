@@ -8,14 +8,14 @@ use Rattle.net.proofs.Journal.{Held, act-held}
 use Rattle.format.specs.NetOf.{netOf}
 use Rattle.tally.specs.Counts.{countedOf}
 use Rattle.tally.specs.declared.Tally.{Tally}
 use Rattle.session.specs.Records.{heldIn, recordOf, Sound}
 use Rattle.session.specs.Commands.{wordOf, valueOf, outcomeOf, performOf, outcomeFor, commandOf}
 use Rattle.session.specs.declared.Record.{Record}
 use Rattle.session.specs.declared.Outcome.{Outcome}
 use Rattle.session.proofs.Steps.{sound-performs, held-back, held-soundFor, step}
 use Rattle.session.proofs.Sounds.{rule, few, held}
-use Rattle.runs.specs.Lists.{StepGives}
-use Rattle.runs.specs.declared.Stepped.{Stepped}
+use Rattle.session.specs.Lists.{StepGives}
+use Rattle.session.specs.declared.run.Stepped.{Stepped}
 
 module _ (s : List ℕ) (r : Record) (S : Sound s r) where
   -- the record of a held journal is sound

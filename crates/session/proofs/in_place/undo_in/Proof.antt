@@ -1,4 +1,4 @@
--- `session::undo_in` meets its contract.
+-- `session::in_place::undo_in` meets its contract.
 -- Assumes nothing but the laws of proofs/.
 use borrow.Author.Needs.{needs}
 use native.Mathlib.Omega.{arith}
@@ -9,8 +9,8 @@ use Rattle.session.specs.declared.Done.{Done}
 use Rattle.session.specs.declared.Outcome.{Outcome}
 use Rattle.session.proofs.Sounds.{placed, live-few, keys-rise, firings-sized}
 use Rattle.session.proofs.Undoes.{dead, built, listed, done}
-use Rattle.session.proofs.undo_in.Statement.{statement}
-use Rattle.session.proofs.undo_in.Tie as tie
+use Rattle.session.proofs.in_place.undo_in.Statement.{statement}
+use Rattle.session.proofs.in_place.undo_in.Tie as tie
 
 -- the function's start, the record that was lent, and the outcome where nothing changed
 abbrev start : tie.After-index-of → tie.Start

@@ -2,13 +2,19 @@
 // The answers go as numbers into two lent slices, from entry 0 on: a word and a value each.
 ghost use mathlib.Core.Path.{_≡_};
 ghost use Prim.Native.Nat.{_<_, _≤_};
-ghost use lib.ListN.{length, take, drop};
+ghost use lib.ListN.{length};
 ghost use Rattle.bonds.specs.Ends.{bondsIn};
 ghost use Rattle.labels.specs.Labelled.{Labelled};
+ghost use Rattle.command_list.specs.Commands.{howMany};
 ghost use Rattle.session.specs.Records.{Sound};
 ghost use Rattle.session.specs.Commands.{commandOf};
 ghost use Rattle.session.specs.Lent.{recordAt};
-ghost use Rattle.runs.specs.Lists.{howMany, ranOf, StepGives, RunGives};
+ghost use Rattle.session.specs.Lists.{ranOf, StepGives, RunGives};
+use crate::Record;
+use crate::in_place::perform_in;
+use crate::value_of;
+use crate::word_of;
+use command_list::command_at;
 use firings::Firings;
 use labels::label_in;
 use marking::Marking;
@@ -17,10 +23,6 @@ use net::MAX_BASES;
 use net::MAX_BONDS;
 use net::MAX_LIVE;
 use net::Place;
-use session::Record;
-use session::perform_in;
-use session::value_of;
-use session::word_of;
 use tally::Tally;
 use tally::counted;
 
@@ -37,18 +39,6 @@ struct Stepped {
 pub struct Ran {
     pub session: Record,
     pub tally: Tally,
-}
-
-// The bytes of the command from `at` on: three, or those that are left. `run` asks only below the length.
-pub fn command_at<'a>(commands: &'a [u8], at: usize) -> &'a [u8]
-    requires { ⌜ at < length (now commands) ⌝ }
-    ensures { λ r. ⌜ now r ≡ take 3 (drop at (now (commands .entry))) ⌝ }
-{
-    let n = commands.len();
-    if n - at < 3 {
-        return &commands[at..n];
-    }
-    &commands[at..at + 3]
 }
 
 // One command in place on the arrays of a sound record, with the tally by value. `run` sees to it that the record is sound and

@@ -1,4 +1,4 @@
--- `session::fire_in` meets its contract.
+-- `session::in_place::fire_in` meets its contract.
 -- Assumes nothing but the laws of proofs/.
 use borrow.Author.Needs.{needs}
 use native.Mathlib.Omega.{arith}
@@ -10,8 +10,8 @@ use Rattle.session.specs.declared.Done.{Done}
 use Rattle.session.specs.declared.Outcome.{Outcome}
 use Rattle.session.proofs.Sounds.{placed}
 use Rattle.session.proofs.Fires.{not-enabled, listed, full, spent, done}
-use Rattle.session.proofs.fire_in.Statement.{statement}
-use Rattle.session.proofs.fire_in.Tie as tie
+use Rattle.session.proofs.in_place.fire_in.Statement.{statement}
+use Rattle.session.proofs.in_place.fire_in.Tie as tie
 
 -- the function's start, the record that was lent, and the outcome where nothing changed
 abbrev start : tie.After-enable-refusal → tie.Start

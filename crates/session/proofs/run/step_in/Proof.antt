@@ -1,11 +1,11 @@
--- `runs::step_in` meets its contract.
+-- `session::run::step_in` meets its contract.
 -- Assumes nothing but the laws of proofs/.
 use borrow.Author.Needs.{needs}
 use Rattle.session.specs.Lent.{recordAt}
 use Rattle.session.specs.declared.Record.{Record}
-use Rattle.runs.proofs.Stays.{stepped}
-use Rattle.runs.proofs.step_in.Statement.{statement}
-use Rattle.runs.proofs.step_in.Tie as tie
+use Rattle.session.proofs.Stays.{stepped}
+use Rattle.session.proofs.run.step_in.Statement.{statement}
+use Rattle.session.proofs.run.step_in.Tie as tie
 
 perform-in-requires : tie.Need-perform-in-requires
 perform-in-requires c κs = search needs

@@ -12,14 +12,14 @@ use Rattle.net.proofs.Checks.{first-has}
 use Rattle.net.proofs.Tests.{and-i}
 use Rattle.format.specs.NetOf.{netOf}
 use Rattle.tally.specs.declared.Tally.{Tally}
 use Rattle.session.specs.Records.{heldIn, Sound}
 use Rattle.session.specs.Commands.{refusal, outcomeOf, acceptOf, performOf, Result, commandOf}
 use Rattle.session.specs.Runs.{Answered, runOf}
 use Rattle.session.specs.declared.Record.{Record}
 use Rattle.session.specs.declared.Outcome.{Outcome}
 use Rattle.session.proofs.Steps.{outcome-is}
-use Rattle.runs.proofs.Stays.{performs, command-sound}
-use Rattle.runs.specs.Lists.{lowRefusal}
+use Rattle.session.proofs.Stays.{performs, command-sound}
+use Rattle.session.specs.Lists.{lowRefusal}
 
 abbrev within : ℕ → Bool
 within n = leb 11 n && leb n 21

@@ -4,29 +4,16 @@ use mathlib.Core.Path.{_≡_}
 use mathlib.Core.Bool.{Bool, true, _&&_}
 use mathlib.Core.List.{List, map}
 use lib.Dec.{eqb, leb}
-use Prim.Native.Nat.{ℕ, _+_, _*_, _/_}
-use lib.ListN.{length, take, drop}
+use Prim.Native.Nat.{ℕ}
 use lib.Seq.{sets}
 use Rattle.net.specs.Tests.{pick, table}
+use Rattle.command_list.specs.Commands.{commandAt, commandsIn}
 use Rattle.tally.specs.declared.Tally.{Tally}
 use Rattle.session.specs.declared.Record.{Record}
 use Rattle.session.specs.declared.Answer.{Answer}
 use Rattle.session.specs.Commands.{wordOf, valueOf, answerNumber, Result}
 use Rattle.session.specs.Runs.{Answered, Session, runOf}
-use Rattle.runs.specs.declared.Stepped.{Stepped}
-
--- ---- The bytes as commands
-
--- How many commands the bytes hold: three bytes each; a last one of one or two bytes is a command too, cut short.
-abbrev pub howMany : List ℕ → ℕ
-howMany b = (length b + 2) / 3
-
--- Command i: the three bytes from 3 * i on, or those that are left.
-abbrev pub commandAt : List ℕ → ℕ → List ℕ
-commandAt b i = take 3 (drop (3 * i) b)
-
-abbrev pub commandsIn : List ℕ → List (List ℕ)
-commandsIn b = table (howMany b) (commandAt b)
+use Rattle.session.specs.declared.run.Stepped.{Stepped}
 
 -- ---- The answers as numbers: each as its word and its value
 

@@ -1,10 +1,10 @@
--- `runs::command_at` meets its contract.
+-- `command_list::command_at` meets its contract.
 -- Assumes nothing but the laws of proofs/.
-use Rattle.runs.proofs.Turns.{cut-part, whole-part}
+use Rattle.command_list.proofs.Parts.{cut-part, whole-part}
 use Prim.Native.Nat.{_-_}
 use borrow.Author.Needs.{needs}
-use Rattle.runs.proofs.command_at.Statement.{statement}
-use Rattle.runs.proofs.command_at.Tie as tie
+use Rattle.command_list.proofs.command_at.Statement.{statement}
+use Rattle.command_list.proofs.command_at.Tie as tie
 
 sub-if1 : tie.Need-sub-if1
 sub-if1 c = search needs

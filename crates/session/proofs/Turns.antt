@@ -2,22 +2,22 @@
 -- Assumes nothing.
 use mathlib.Core.Path.{_≡_, refl, sym, _∙_, ap, subst}
 use mathlib.Core.List.{List, [], _∷_, _++_, map}
-use Prim.Native.Nat.{ℕ, suc, _+_, _-_, _<_, _≤_}
+use Prim.Native.Nat.{ℕ, suc, _+_}
 use native.Mathlib.Nat.{zero-add}
-use native.Mathlib.Omega.{arith}
-use lib.ListN.{length, set, take, drop, length-drop, drop-of-length-le}
-use lib.Seq.{sets, take-all, take-nil}
+use lib.ListN.{length, set}
+use lib.Seq.{sets}
 use Rattle.net.specs.Tests.{table}
 use Rattle.net.proofs.Tables.{length-table, table-more}
 use Rattle.text.proofs.Writes.{sets-snoc}
+use Rattle.command_list.specs.Commands.{howMany, commandAt, commandsIn}
 use Rattle.tally.specs.declared.Tally.{Tally}
 use Rattle.session.specs.declared.Record.{Record}
 use Rattle.session.specs.Records.{Sound}
 use Rattle.session.specs.Commands.{wordOf, valueOf, Result, commandOf}
 use Rattle.session.specs.Runs.{Answered, Session, runOf}
-use Rattle.runs.proofs.Stays.{command-sound}
-use Rattle.runs.specs.declared.Stepped.{Stepped}
-use Rattle.runs.specs.Lists.{howMany, commandAt, commandsIn, wordsOf, valuesOf, StepGives, ranTo, ranOf, RunGives}
+use Rattle.session.proofs.Stays.{command-sound}
+use Rattle.session.specs.declared.run.Stepped.{Stepped}
+use Rattle.session.specs.Lists.{wordsOf, valuesOf, StepGives, ranTo, ranOf, RunGives}
 
 -- the answer that a list of them keeps
 abbrev kept : Result → Answered
@@ -63,23 +63,6 @@ map-snoc f (y ∷ l) x = λ i. f y ∷ map-snoc f l x i
 stored : {A : Type 0} (f : A → ℕ) (l : List A) (x : A) (b : List ℕ) (i : ℕ) → length l ≡ i → set (sets b 0 (map f l)) i (f x) ≡ sets b 0 (map f (l ++ (x ∷ [])))
 stored f l x b i e =
     ap (λ (k : ℕ). set (sets b 0 (map f l)) k (f x)) (sym (zero-add (length (map f l)) ∙ length-map f l ∙ e)) ∙ sets-snoc (map f l) b 0 (f x) ∙ ap (sets b 0) (sym (map-snoc f l x))
-
--- ---- a part of the bytes: so many from a position on, or those that are left
-
-pub cut-part : (b : List ℕ) (at most : ℕ) → length b - at < most → take (length b - at) (drop at b) ≡ take most (drop at b)
-cut-part b at most h =
-    let e : length (drop at b) ≡ length b - at = length-drop at b in
-    let le : length (drop at b) ≤ length b - at = omega arith in
-    let lo : length (drop at b) ≤ most = omega arith in
-    take-all (length b - at) (drop at b) le ∙ sym (take-all most (drop at b) lo)
-
-pub whole-part : (b : List ℕ) (at most : ℕ) → take (at + most - at) (drop at b) ≡ take most (drop at b)
-whole-part b at most = let e : at + most - at ≡ most = omega arith in ap (λ (k : ℕ). take k (drop at b)) e
-
-pub no-part : (b : List ℕ) (at most : ℕ) → length b ≤ at → take (length b - length b) (drop (length b) b) ≡ take most (drop at b)
-no-part b at most h =
-    let z : length b - length b ≡ 0 = omega arith in
-    ap (λ (k : ℕ). take k (drop (length b) b)) z ∙ sym (ap (take most) (drop-of-length-le b h) ∙ take-nil most)
 
 -- ---- the run to a position
 

@@ -1,4 +1,4 @@
--- `runs::run` meets its contract.
+-- `session::run::run` meets its contract.
 -- Assumes nothing but the laws of proofs/.
 use borrow.Author.Needs.{needs}
 use native.Mathlib.Omega.{arith}
@@ -9,15 +9,15 @@ use lib.ListN.{length-set, length, take, drop}
 use Rattle.bonds.specs.Ends.{bondsIn}
 use Rattle.labels.specs.Labelled.{Labelled}
 use Rattle.sound.proofs.Lines.{placed-fits, placed-ends}
 use Rattle.session.specs.Records.{Sound}
 use Rattle.session.specs.Lent.{recordAt}
 use Rattle.session.specs.declared.Record.{Record}
 use Rattle.session.proofs.Sounds.{placed}
-use Rattle.runs.specs.Lists.{howMany}
-use Rattle.runs.proofs.Stays.{step-sound}
-use Rattle.runs.proofs.Turns.{Upto, upto-none, upto-more, upto-all}
-use Rattle.runs.proofs.run.Statement.{statement}
-use Rattle.runs.proofs.run.Tie as tie
+use Rattle.command_list.specs.Commands.{howMany}
+use Rattle.session.proofs.Stays.{step-sound}
+use Rattle.session.proofs.Turns.{Upto, upto-none, upto-more, upto-all}
+use Rattle.session.proofs.run.run.Statement.{statement}
+use Rattle.session.proofs.run.run.Tie as tie
 
 -- the arrays hold a sound record, the labels are those of its bonds, and all is as after the first i commands
 abbrev Inv-loop : tie.InvT-loop

@@ -1,4 +1,4 @@
--- `session::perform_in` meets its contract.
+-- `session::in_place::perform_in` meets its contract.
 -- Assumes nothing but the laws of proofs/.
 use borrow.Author.Needs.{needs}
 use borrow.Author.Tests.{lt-ltb, le-ltb}
@@ -11,8 +11,8 @@ use Rattle.session.specs.declared.Done.{Done}
 use Rattle.session.specs.declared.Outcome.{Outcome}
 use Rattle.session.proofs.Sounds.{held, live-few, last-given}
 use Rattle.session.proofs.Performing.{cut, unread, given as commanded}
-use Rattle.session.proofs.perform_in.Statement.{statement}
-use Rattle.session.proofs.perform_in.Tie as tie
+use Rattle.session.proofs.in_place.perform_in.Statement.{statement}
+use Rattle.session.proofs.in_place.perform_in.Tie as tie
 
 -- the record that was lent, and the outcome where nothing changed
 abbrev lent : tie.Start → Record

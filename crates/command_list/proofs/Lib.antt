@@ -1,0 +1,2 @@
+-- Laws of a list of commands as bytes.
+pub mod Parts

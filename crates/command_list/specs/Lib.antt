@@ -1,0 +1,2 @@
+-- A list of commands as bytes.
+pub mod Commands

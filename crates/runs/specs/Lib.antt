@@ -1,2 +1,0 @@
--- What a whole list of commands, given as bytes, comes to.
-pub mod Lists
