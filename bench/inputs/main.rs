@@ -10,6 +10,9 @@ const MOST_LIVE: usize = 256;
 /// Commands of the single call that are timed at 256 live firings.
 const SINGLE: usize = 2_000;
 
+/// How many commands go in blocks of 1,000 after that; the program that is timed reads at most 65,536 bytes.
+const BLOCKS: usize = 20_000;
+
 type Coupling = (u8, u8);
 
 struct Step {
@@ -219,5 +222,11 @@ fn main() {
         "single",
         &apart,
         filled(MOST_LIVE).chain(again()).take(MOST_LIVE + SINGLE),
+    );
+    write(
+        folder,
+        "blocks",
+        &apart,
+        filled(MOST_LIVE).chain(again()).take(MOST_LIVE + BLOCKS),
     );
 }

@@ -1,5 +1,5 @@
 // Times two programs on the same inputs, sees that they write the same bytes, and prints a table in Markdown:
-// timing FOLDER REPEATS PROVED PLAIN SINGLY. A time is the processor time of a whole process, best of the repeats.
+// timing FOLDER REPEATS PROVED PLAIN TIMED. A time is the processor time of a whole process, best of the repeats.
 
 mod usage;
 
@@ -89,12 +89,47 @@ impl Bench {
         best
     }
 
+    /// The best time of one way to run the commands of an input.
+    fn alone(&self, program: Program, input: &str) -> Duration {
+        let output = self.folder.join("timed.out");
+        let times = (0..PLAIN_RUNS * self.repeats).map(|_| self.once(program, input, &output));
+        times.min().unwrap_or_default()
+    }
+
+    /// 1,000 commands at 256 live as one block, by `run`, and singly: a table of times alone.
+    fn blocks(&self, timed: &Path, single: Duration) {
+        let more = self.commands("blocks") - self.commands("single_before");
+        let thousand = |way: &str| {
+            let words = [way];
+            let (whole, before) = (
+                self.alone((timed, &words), "blocks"),
+                self.alone((timed, &words), "single_before"),
+            );
+            micros(whole.saturating_sub(before)) * 1000.0 / more as f64
+        };
+        let (block, run, one) = (thousand("blocks"), thousand("run"), micros(single));
+        println!();
+        println!("| 1,000 commands at 256 live | µs |");
+        println!("|---|---|");
+        println!("| as one block | {block:.0} |");
+        println!("| as a list by `run`, nothing checked | {run:.0} |");
+        println!("| one single call | {one:.0} |");
+        println!("| by 1,000 single calls | {:.0} |", 1000.0 * one);
+        println!();
+        let share = (block - one) / run;
+        println!("Less one single call, the block takes {share:.2} times what `run` takes.");
+    }
+
     /// How many commands an input has.
     fn commands(&self, name: &str) -> usize {
         let bytes = std::fs::read(self.input(name)).unwrap_or_else(|e| fail(&e.to_string()));
         let sheet = usize::from(u16::from_le_bytes([bytes[0], bytes[1]]));
         (bytes.len() - 2 - sheet) / 3
     }
+}
+
+fn micros(d: Duration) -> f64 {
+    d.as_secs_f64() * 1e6
 }
 
 fn row(what: &str, commands: usize, (proved, plain): (Duration, Duration)) {
@@ -109,8 +144,8 @@ fn row(what: &str, commands: usize, (proved, plain): (Duration, Duration)) {
 
 fn main() {
     let words: Vec<String> = std::env::args().skip(1).collect();
-    let [folder, repeats, proved, plain, singly] = &words[..] else {
-        fail("timing FOLDER REPEATS PROVED PLAIN SINGLY");
+    let [folder, repeats, proved, plain, timed] = &words[..] else {
+        fail("timing FOLDER REPEATS PROVED PLAIN TIMED");
     };
     let repeats = repeats
         .parse()
@@ -121,7 +156,7 @@ fn main() {
         folder: PathBuf::from(folder),
         repeats,
     };
-    let (proved, plain, singly) = (Path::new(proved), Path::new(plain), Path::new(singly));
+    let (proved, plain, timed) = (Path::new(proved), Path::new(plain), Path::new(timed));
 
     let plain_runs = PLAIN_RUNS * repeats;
     println!("Processor time of whole processes, best of {repeats} (plain: {plain_runs}); the outputs were equal.");
@@ -135,27 +170,27 @@ fn main() {
             bench.best((proved, &[]), (plain, &[]), name),
         );
     }
-    let alone = |input| bench.best((singly, &[]), (plain, &["singly"]), input);
+    let alone = |input| bench.best((timed, &["singly"]), (plain, &["singly"]), input);
     let (before, whole) = (alone("single_before"), alone("single"));
     let filled = bench.commands("single_before");
-    let timed = bench.commands("single") - filled;
+    let single = bench.commands("single") - filled;
     let less = (
         whole.0.saturating_sub(before.0),
         whole.1.saturating_sub(before.1),
     );
     row(
         "the single call, sheet and record checked, 256 live",
-        timed,
+        single,
         less,
     );
     let (a, b) = bench.best((proved, &[]), (plain, &[]), "start");
     println!();
-    let micros = |d: Duration| d.as_secs_f64() * 1e6;
     println!("Nothing is subtracted in the rows of whole lists: an input of no commands takes");
     println!(
         "{:.0} µs proved and {:.0} µs plain. The single call is the time of {filled} firings",
         micros(a),
         micros(b)
     );
-    println!("and {timed} commands less that of the firings alone, divided by {timed}.");
+    println!("and {single} commands less that of the firings alone, divided by {single}.");
+    bench.blocks(timed, less.0 / single as u32);
 }

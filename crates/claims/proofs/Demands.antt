@@ -10,6 +10,7 @@ use Rattle.claims.proofs.Sessions.{demand3}
 use Rattle.claims.proofs.Counts.{session-totals}
 use Rattle.claims.proofs.Published.{demand2-published}
 use Rattle.claims.proofs.Pages.{pages}
+use Rattle.claims.proofs.Blocks.{blocks}
 
 pub demands : Demands
 demands = record {
@@ -23,4 +24,5 @@ demands = record {
   demand3 = λ s accepted. let P = promised s accepted in demand3 s accepted (P .rule) (P .bases .1);
   totals = λ s accepted. let P = promised s accepted in session-totals s accepted (P .rule) (P .bases .1);
   pages = pages;
+  blocks = blocks;
 }

@@ -2,13 +2,14 @@
 -- kind, that do what chapter 3 does. Assumes nothing.
 use mathlib.Core.Path.{_≡_, refl, _∙_, ap}
 use mathlib.Core.Bool.{true}
-use mathlib.Core.List.{List, [], _∷_}
+use mathlib.Core.List.{List, [], _∷_, _++_, map}
 use Prim.Native.Nat.{ℕ}
 use lib.ListN.{set}
 use Rattle.net.specs.Net.{Net}
 use Rattle.net.specs.Checks.{clear}
-use Rattle.net.specs.Journal.{Journal, transition, begin, act, play}
+use Rattle.net.specs.Journal.{Journal, transition, begin, act, answers, play}
 use Rattle.net.specs.Cases.{netB, fireOf, undoLast, undoOf}
+use Rattle.net.proofs.Checks.{clear-append}
 use Rattle.net.specs.declared.Transition.{Transition}
 use Rattle.published.specs.Sets.{Max}
 use Rattle.published.specs.Backtracking.{BacktrackEnabled}
@@ -19,9 +20,12 @@ use Rattle.sheet.specs.Checks.{sheetChecks}
 use Rattle.sheet.specs.Samples.{sheetA, sheetB}
 use Rattle.sheet.proofs.Accepted.{promised}
 use Rattle.sheet.proofs.Samples.{sheetA-accepted, sheetB-accepted, sheetB-net, earlier-step-first}
+use Rattle.command_list.specs.Commands.{commandsIn}
 use Rattle.tally.specs.declared.Tally.{Tally}
 use Rattle.session.specs.Records.{heldIn, soundFor, Sound}
-use Rattle.session.specs.Commands.{freshOf, zeroRecord, startOf, answerOf, commandOf}
+use Rattle.session.specs.Commands.{freshOf, zeroRecord, startOf, answerOf, wordOf, valueOf, commandOf}
+use Rattle.session.specs.Runs.{Answered, answered}
+use Rattle.session.specs.Block.{blockChecks, blockOf}
 use Rattle.session.specs.declared.Record.{Record}
 use Rattle.session.specs.declared.StartAnswer.the-variants.{NotStarted}
 use Rattle.session.proofs.Begins.{fresh-sound}
@@ -102,3 +106,28 @@ taken-back-M5 t = shown firings t .undoesOnly t (undoOf 2) refl (answer-B firing
 -- and so where the same record is handed in
 pub handed-in-M5 : (t : Tally) → RecordAsPublished sheetB (recordB firings t) (orderOfLines (netOf sheetB) (heldIn sheetB (recordB firings t) .lines))
 handed-in-M5 t = published-B .sound (published-B .wellFormed) (recordB firings t) (passes-B firings t)
+
+-- ---- T-02: a block of four commands on a fresh record of sheet B, the last cut short, with lists of five entries
+
+abbrev block : List ℕ
+block = 1 ∷ 0 ∷ 0 ∷ 1 ∷ 1 ∷ 0 ∷ 1 ∷ 2 ∷ 0 ∷ 2 ∷ []
+
+abbrev nines : List ℕ
+nines = 9 ∷ 9 ∷ 9 ∷ 9 ∷ 9 ∷ []
+
+block-passes : clear (blockChecks sheetB (freshOf sheetB) block 5 5) ≡ true
+block-passes = clear-append (sheetChecks sheetB) _ ∙ rw (accepted-B, sound-B .sound)
+
+block-answers : (t : Tally) → sessionAfter sheetB (commandsIn block) t .answers ≡ map answered (answers netB (commandsIn block) (begin netB))
+block-answers t = demand3-B (commandsIn block) t .answers ∙ ap (λ (n : Net). map answered (answers n (commandsIn block) (begin n))) sheetB-net
+
+-- fired 1, fired 2, fired 3, refused 21; the fifth entry stays
+pub block-words : (t : Tally) → blockOf sheetB (freshOf sheetB) t block nines nines .words ≡ 0 ∷ 0 ∷ 0 ∷ 2 ∷ 9 ∷ []
+block-words t =
+    demands .blocks sheetB (freshOf sheetB) t block nines nines .singly block-passes .words-are
+    ∙ ap (λ (l : List Answered). map (λ (a : Answered). wordOf (a .answer)) l ++ (9 ∷ [])) (block-answers t)
+
+pub block-values : (t : Tally) → blockOf sheetB (freshOf sheetB) t block nines nines .values ≡ 1 ∷ 2 ∷ 3 ∷ 21 ∷ 9 ∷ []
+block-values t =
+    demands .blocks sheetB (freshOf sheetB) t block nines nines .singly block-passes .values-are
+    ∙ ap (λ (l : List Answered). map (λ (a : Answered). valueOf (a .answer) (a .key)) l ++ (9 ∷ [])) (block-answers t)

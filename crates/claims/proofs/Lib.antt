@@ -7,5 +7,6 @@ pub mod Sessions
 pub mod Counts
 pub mod Published
 pub mod Pages
+pub mod Blocks
 pub mod Demands
 pub mod Instances

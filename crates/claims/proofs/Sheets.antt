@@ -18,7 +18,7 @@ use Rattle.sheet.proofs.Order.{clear-first}
 use Rattle.session.specs.Commands.{freshOf, zeroRecord, startOf, startNumber}
 use Rattle.session.specs.declared.Start.{Start}
 use Rattle.session.specs.declared.StartAnswer.the-variants.{Started, NotStarted}
-use Rattle.session.proofs.Answering.{sheet-positive}
+use Rattle.sound.proofs.Refusing.{sheet-positive}
 use Rattle.claims.specs.Demands.{FirstHolds, SheetAnswered, SheetStarts}
 use Rattle.net.proofs.Checks.{first-has}
 use Rattle.claims.proofs.Checks.{first-found, found-first}

@@ -35,6 +35,7 @@ use Rattle.claims.specs.Sessions.{journalAfter, sessionAfter}
 use Rattle.firings.specs.declared.Firing.{Firing}
 use Rattle.claims.specs.Published.{Demand2Published}
 use Rattle.claims.specs.Pages.{Pages}
+use Rattle.claims.specs.Blocks.{Blocks}
 
 -- ---- What the definitions of firing rest on
 
@@ -145,3 +146,4 @@ pub record Demands : Type 0 where
   pub totals : (s : List ℕ) → clear (sheetChecks s) ≡ true → (cs : List (List ℕ)) → SessionTotals s cs
   -- document 02's requests, each by its file
   pub pages : (fs : List Firing) → Pages fs
+  pub blocks : (s : List ℕ) (r : Record) (t : Tally) (b words values : List ℕ) → Blocks s r t b words values

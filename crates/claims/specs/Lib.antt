@@ -2,4 +2,5 @@
 pub mod Sessions
 pub mod Published
 pub mod Pages
+pub mod Blocks
 pub mod Demands

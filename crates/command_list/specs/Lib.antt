@@ -1,2 +1,3 @@
 -- A list of commands as bytes.
 pub mod Commands
+pub mod Block

@@ -12,7 +12,7 @@ use Rattle.net.specs.Checks.{clear, first}
 use Rattle.format.specs.Bytes.{wordAt}
 use Rattle.format.specs.NetOf.{netOf}
 use Rattle.sheet.specs.Checks.{sheetChecks}
-use Rattle.session.proofs.Answering.{sheet-clear, sheet-held}
+use Rattle.sound.proofs.Refusing.{sheet-clear, sheet-held}
 use Rattle.command_list.specs.Commands.{commandsIn}
 use Rattle.output.specs.Output.{maxCommands, sheetIn, commandBytes, refusedSheet, sessionText, output}
 use Rattle.output.specs.Input.{lookedAt, maxInput, Settled}

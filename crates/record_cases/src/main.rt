@@ -1,13 +1,15 @@
-// Records handed in: altered, of another sheet, with raised serials; tallies near their limit; answer lines into lent buffers.
+// Records handed in: altered, of another sheet, with raised serials; tallies near their limit; answer lines into lent buffers; blocks.
 // By the customer's calls; what each is to be answered was worked out from document 01. What is run stands in the file stdin, a row
 // for each step of a case (generated, rows). A row with a name ends its group: how many were run and how many differed is printed.
 ghost use Prim.Native.Nat.{_≤_, _<_};
 
+mod blocks;
 mod case;
 mod edits;
 mod lines;
 mod same;
 
+use blocks::block_holds;
 use case::Case;
 use case::counted;
 use case::given;
@@ -173,6 +175,14 @@ fn on_damaged(c: Case, all: &[u8], w: &[u64]) -> Case {
     given(c, sheet, b"\x01\x00\x00", get(w, 6), 0)
 }
 
+// Row 9: a block on the record in hand and sheet A with version 2 (module blocks has the other numbers).
+fn on_block(c: Case, all: &[u8], w: &[u64]) -> Case {
+    let mut room = [0u8; 256];
+    put_all(&mut room, 0, sheet_at(all, 0));
+    put(&mut room, 0, get(w, 2));
+    counted(c, block_holds(c, part(&room, 0, 40), w))
+}
+
 fn stepped(c: Case, all: &[u8], letters: &[u8], w: &[u64]) -> Case {
     let kind = get(w, 1);
     if kind == 0 {
@@ -198,6 +208,9 @@ fn stepped(c: Case, all: &[u8], letters: &[u8], w: &[u64]) -> Case {
     }
     if kind == 7 {
         return on_damaged(c, all, w);
+    }
+    if kind == 9 {
+        return on_block(c, all, w);
     }
     counted(c, lined(letters, w))
 }

@@ -3,30 +3,23 @@
 ghost use Prim.Native.Nat.{_<_, _≤_};
 ghost use lib.ListN.{length};
 use crate::answer::put_answer;
-use crate::answer::put_couplings;
-use crate::answer::put_live;
-use crate::answer::put_moved;
 use crate::answer::put_start;
-use crate::answer::put_step;
-use crate::answer::put_tally;
-use crate::answer::put_where;
 use crate::answer::refusal_of;
-use crate::changed::put_cut;
-use crate::changed::put_with;
+use crate::blocks::at_line;
+use crate::blocks::begin_block;
+use crate::blocks::block_line;
+use crate::blocks::give_up;
 use crate::command::Command;
 use crate::command::command_of;
 use crate::form::Form;
 use crate::form::Order;
-use crate::form::Question;
 use crate::form::form_of;
-use crate::pages::put_page;
-use crate::pages::put_row;
 use crate::part::behind;
 use crate::part::between;
 use crate::part::front;
 use crate::part::without_comment;
-use crate::reason::put_reason;
-use crate::refused::put_refused;
+use crate::questions::put_question;
+use crate::questions::start_refusal;
 use crate::same::same_items;
 use crate::say::print_difference;
 use crate::say::print_slip;
@@ -34,21 +27,20 @@ use crate::say::print_total;
 use crate::sheets::Slip;
 use crate::sheets::line_end;
 use crate::sheets::one_more;
+use crate::sheets::plus;
 use crate::sheets::sheet_in;
 use crate::state::Desk;
 use crate::state::at_start;
+use crate::state::bad_bytes;
 use crate::state::closed;
 use crate::state::mistake;
 use crate::state::no_counts;
 use crate::state::opened;
 use crate::state::tell;
-use format::base_count;
 use lexing::next;
-use session::StartAnswer;
 use session::command_with;
 use session_start::start;
 use tally::Tally;
-use why::why;
 
 // ---- sheets
 
@@ -61,14 +53,6 @@ fn begin_sheet(d: Desk, at: usize) -> Desk {
     x.started = false;
     x.broken = false;
     x
-}
-
-// The number that a start was refused by; 0 where it was not.
-fn start_refusal(a: StartAnswer) -> u8 {
-    match a {
-        StartAnswer::Started => 0,
-        StartAnswer::NotStarted(n) => n,
-    }
 }
 
 // A fresh record on the sheet in the buffer.
@@ -94,11 +78,6 @@ fn break_off(name: &[u8], d: Desk, slip: Slip, line: usize) -> Desk {
     x.mistakes = one_more(d.mistakes);
     x.broken = true;
     x
-}
-
-// The sum where it is a number of a line.
-pub fn plus(a: usize, b: usize) -> usize {
-    if b <= usize::MAX - a { a + b } else { a }
 }
 
 // The sheet whose lines end at a position of the text is read.
@@ -175,56 +154,9 @@ fn order_line(
 ) -> Desk {
     let c = command_of(o, line);
     if !c.fine {
-        return mistake(
-            name,
-            d,
-            b"`hex` and at most 4 bytes, two digits 0 to 9, a to f, for each",
-        );
+        return bad_bytes(name, d);
     }
     perform(d, c, sheet, answer)
-}
-
-// ---- questions
-
-// Why the last command was refused; a refused sheet has its own reason.
-fn put_why(d: Desk, sheet: &[u8], answer: &mut [u8]) -> usize {
-    let r = d.record;
-    let c = d.command;
-    let bytes = [c.a, c.b, c.c, c.d];
-    let s = front(sheet, d.length);
-    let first = start(s);
-    let refused = first.answer;
-    let n = start_refusal(refused);
-    if n != 0 {
-        return put_refused(answer, s, n);
-    }
-    if !d.asked {
-        return put_reason(answer, why::Reason::Nothing);
-    }
-    if d.refusal == 0 {
-        return put_reason(answer, why::Reason::Nothing);
-    }
-    put_reason(answer, why(r, s, front(&bytes, c.n)))
-}
-
-fn put_question(d: Desk, q: Question, line: &[u8], sheet: &[u8], answer: &mut [u8]) -> usize {
-    let r = d.record;
-    let m = r.marking;
-    let t = d.tally;
-    let s = front(sheet, d.length);
-    match q {
-        Question::Where => put_where(answer, m, base_count(s) as usize),
-        Question::Couplings => put_couplings(answer, m),
-        Question::Live => put_live(answer, r),
-        Question::Moved(k) => put_moved(answer, r, k),
-        Question::StepOf(k) => put_step(answer, r, k),
-        Question::Tally => put_tally(answer, t),
-        Question::Why => put_why(d, sheet, answer),
-        Question::With(n) => put_with(line, n, s, answer),
-        Question::Cut(n) => put_cut(line, n, s, answer),
-        Question::Page(k) => put_page(answer, r, s, k),
-        Question::Row(k, i) => put_row(answer, r, s, k, i),
-    }
 }
 
 // ---- lines
@@ -260,14 +192,15 @@ fn other_line(name: &[u8], d: Desk) -> Desk {
     mistake(
         name,
         d,
-        b"`fire K`, `undo last`, `undo S`, `hex BYTES`, `where`, `couplings`, `live`, `moved S`, `step of S`, `tally`, `why`, `page N`, `row N I`, `with AT BYTE`, `cut LENGTH`, `expect ANSWER`, `sheet` or `session`",
+        b"`fire K`, `undo last`, `undo S`, `hex BYTES`, `block`, `hand in`, `where`, `couplings`, `live`, `moved S`, `step of S`, `tally`, `why`, `page N`, `row N I`, `with AT BYTE`, `cut LENGTH`, `expect ANSWER`, `sheet` or `session`",
     )
 }
 
-// A line of a session that has begun, or would need one.
+// A line of a session that has begun, or would need one. It ends at a position of the text.
 fn in_session(
     name: &[u8],
     line: &[u8],
+    to: usize,
     d: Desk,
     form: Form,
     sheet: &[u8],
@@ -286,6 +219,8 @@ fn in_session(
         Form::Sheet => d,
         Form::Session => d,
         Form::Expect => d,
+        Form::Block => begin_block(d, to),
+        Form::HandIn => mistake(name, d, b"`block` and commands before `hand in`"),
         Form::Other => other_line(name, d),
     }
 }
@@ -307,6 +242,8 @@ fn turn_of(form: Form, reading: bool) -> Turn {
         Form::Expect => if reading { Turn::Pass } else { Turn::Expect },
         Form::Command(o) => if reading { Turn::Pass } else { Turn::Line },
         Form::Asks(q) => if reading { Turn::Pass } else { Turn::Line },
+        Form::Block => if reading { Turn::Pass } else { Turn::Line },
+        Form::HandIn => if reading { Turn::Pass } else { Turn::Line },
         Form::Other => if reading { Turn::Pass } else { Turn::Line },
     }
 }
@@ -325,8 +262,10 @@ fn take_line(
 {
     let line = between(text, at, to);
     let form = form_of(line);
-    let mut d = before;
-    d.line = one_more(before.line);
+    let d = at_line(name, before, form);
+    if d.in_block {
+        return block_line(name, text, at, to, d, form, sheet, answer);
+    }
     let turn = turn_of(form, d.reading);
     match turn {
         Turn::Pass => d,
@@ -336,6 +275,7 @@ fn take_line(
         Turn::Line => in_session(
             name,
             line,
+            to,
             tell(name, d, sheet, answer),
             form,
             sheet,
@@ -369,12 +309,12 @@ fn take_lines(name: &[u8], text: &[u8], sheet: &mut [u8], answer: &mut [u8]) -> 
     d
 }
 
-// A sheet with no `session` behind it is read too, so that its first mistake is said.
+// A sheet with no `session` behind it is read too, so that its first mistake is said. A block that was not handed in is one.
 fn finish(name: &[u8], text: &[u8], d: Desk, sheet: &mut [u8]) -> Desk
     requires { ⌜ 65536 ≤ length (now sheet) ⌝ }
 {
     if !d.reading {
-        return d;
+        return give_up(name, d);
     }
     read_lines(name, text, text.len(), d, sheet)
 }

@@ -3,7 +3,6 @@
 ghost use Prim.Native.Nat.{_≤_};
 ghost use lib.ListN.{length};
 use crate::command::command_of;
-use crate::desk::plus;
 use crate::form::Form;
 use crate::form::form_of;
 use crate::part::between;
@@ -16,6 +15,7 @@ use crate::sheets::Slip;
 use crate::sheets::line_end;
 use crate::sheets::mistaken;
 use crate::sheets::one_more;
+use crate::sheets::plus;
 use crate::sheets::sheet_in;
 use crate::sheets::sheet_of;
 use format::byte_at;
@@ -139,7 +139,8 @@ fn put_order(line: &[u8], out: &mut [u8], n: usize) -> usize {
     }
 }
 
-fn put_orders(text: &[u8], out: &mut [u8], n: usize) -> usize {
+// The commands of all lines.
+pub fn put_orders(text: &[u8], out: &mut [u8], n: usize) -> usize {
     let mut end = n;
     let mut at = 0;
     while at < text.len() {

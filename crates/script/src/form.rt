@@ -32,6 +32,8 @@ pub enum Form {
     Sheet,
     Session,
     Expect,
+    Block,
+    HandIn,
     Command(Order),
     Asks(Question),
     Other,
@@ -142,6 +144,12 @@ pub fn form_of(line: &[u8]) -> Form {
     }
     if is(line, b"session") {
         return Form::Session;
+    }
+    if is(line, b"block") {
+        return Form::Block;
+    }
+    if is(line, b"hand in") {
+        return Form::HandIn;
     }
     command_form(line)
 }

@@ -1,6 +1,7 @@
 // Scripts for the desk: a sheet as text or bytes, commands, questions and expectations, line by line. The answers come from
 // the customer's calls; what is here reads lines and prints. Proved safe; what is printed is compared.
 mod answer;
+mod blocks;
 mod changed;
 mod command;
 mod desk;
@@ -12,6 +13,7 @@ mod pages;
 mod part;
 pub mod program;
 mod put;
+mod questions;
 mod reason;
 mod refused;
 pub mod same;

@@ -66,6 +66,11 @@ pub fn one_more(n: usize) -> usize {
     if n < usize::MAX { n + 1 } else { n }
 }
 
+// The sum; the first number where it has none.
+pub fn plus(a: usize, b: usize) -> usize {
+    if b <= usize::MAX - a { a + b } else { a }
+}
+
 // What a line of a sheet lacks where it stands.
 fn slip_of(l: Line) -> Slip {
     match l {

@@ -26,7 +26,11 @@ pub struct Desk {
     pub length: usize,
     pub record: Record,
     pub tally: Tally,
-    // the last command, or none since the session began; the number that it was refused by
+    // a block's lines are being passed: from where in the text; how many bytes its commands, or those of the last block, have
+    pub in_block: bool,
+    pub block_from: usize,
+    pub block_bytes: usize,
+    // the last command, or none since the session began; the number that it, or a block behind it, was refused by
     pub command: Command,
     pub asked: bool,
     pub refusal: u8,
@@ -63,6 +67,9 @@ pub fn at_start() -> Desk {
         length: 0,
         record: r,
         tally: no_counts(),
+        in_block: false,
+        block_from: 0,
+        block_bytes: 0,
         command: no_command(),
         asked: false,
         refusal: 0,
@@ -100,6 +107,15 @@ pub fn mistake(name: &[u8], d: Desk, words: &[u8]) -> Desk {
     x.whole = d.whole & written;
     x.mistakes = one_more(d.mistakes);
     x
+}
+
+// A command's bytes that were not understood.
+pub fn bad_bytes(name: &[u8], d: Desk) -> Desk {
+    mistake(
+        name,
+        d,
+        b"`hex` and at most 4 bytes, two digits 0 to 9, a to f, for each",
+    )
 }
 
 // The answer that waits is printed, that of a refused sheet with its reason.

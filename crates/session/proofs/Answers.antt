@@ -20,7 +20,7 @@ use Rattle.session.specs.declared.Record.{Record}
 use Rattle.session.specs.declared.Outcome.{Outcome}
 use Rattle.session.specs.Records.{heldIn, soundFor}
 use Rattle.session.specs.Commands.{refusal, answerOf, keyOf, wordOf, valueOf, valueBound, heardOf, answerNumber, outcomeOf, acceptOf, commandChecks, outcomeFor}
-use Rattle.session.proofs.Answering.{sheet-positive}
+use Rattle.sound.proofs.Refusing.{sheet-positive}
 
 -- ---- the word and the value tell the answer
 

@@ -14,4 +14,6 @@ pub mod Values
 pub mod Answering
 pub mod Begins
 pub mod Answers
+pub mod Lending
 pub mod Listing
+pub mod Blocks

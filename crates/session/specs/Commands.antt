@@ -1,21 +1,21 @@
 -- Starting a session, and one command on a record: the checks in order, the answer, the key, the record, the tally.
 -- Definitions only (01, commands, record, tally; the turned-away list). `commandOf` fixes every outcome whole.
 use mathlib.Core.Path.{_≡_}
-use mathlib.Core.Bool.{not}
-use mathlib.Core.List.{List, [], _∷_, _++_}
+use mathlib.Core.List.{List, []}
 use Prim.Native.Nat.{ℕ}
 use lib.Dec.{eqb}
 use Rattle.net.specs.Tests.{pick}
-use Rattle.net.specs.Checks.{Check, check, clear, first}
+use Rattle.net.specs.Checks.{Check, clear, first}
 use Rattle.net.specs.Journal as J
 use Rattle.net.specs.Journal.{key, kindOf, numberOf, unreadable, transitionNamed, keyNamed, fireChecks, undoChecks, fireReply, undoReply, begin, checks}
 use Rattle.net.specs.declared.Key.{Key}
 use Rattle.net.specs.declared.Transition.{Transition}
 use Rattle.format.specs.NetOf.{netOf}
 use Rattle.sheet.specs.Checks.{sheetChecks}
+use Rattle.sound.specs.Soundness.{checksIn}
 use Rattle.tally.specs.Counts.{countedOf}
 use Rattle.tally.specs.declared.Tally.{Tally}
-use Rattle.session.specs.Records.{heldIn, recordOf, soundFor}
+use Rattle.session.specs.Records.{heldIn, recordOf}
 use Rattle.session.specs.declared.Record.{Record}
 use Rattle.session.specs.declared.Command.the-variants.{Fire, UndoLast, Undo}
 use Rattle.session.specs.declared.Decoded.{Decoded}
@@ -120,7 +120,7 @@ performOf s r c = pick (clear (checks (netOf s) (heldIn s r) c)) (acceptOf s r c
 
 -- What every call on a record checks before its own: 1 to 9, then 10.
 abbrev pub recordChecks : List ℕ → Record → List Check → List Check
-recordChecks s r own = sheetChecks s ++ (check 10 (not (soundFor s r)) ∷ own)
+recordChecks s r own = checksIn s (r .marking) (r .firings) own
 
 -- All checks of a command, in checking order: 1 to 9, 10, then 21, or 11 to 20.
 abbrev pub commandChecks : List ℕ → Record → List ℕ → List Check

@@ -5,3 +5,4 @@ pub mod Lent
 pub mod Live
 pub mod Runs
 pub mod Lists
+pub mod Block

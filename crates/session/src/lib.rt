@@ -1,5 +1,6 @@
 // Commands on the session record (document 01, commands, record, tally): the record goes in by value and comes out.
 // A customer's command checks sheet and record first; what is in place (in_place, run) asks for a sound record.
+pub mod block;
 mod in_place;
 mod live;
 pub mod run;
@@ -18,9 +19,7 @@ use marking::Marking;
 use net::Key;
 use net::MAX_BASES;
 use net::Transition;
-use sheet::check_sheet;
-use sheet::sheet_number;
-use sound::is_sound;
+use sound::record_refusal;
 use tally::Tally;
 
 // The session record: a marking, and the live firings in strictly ascending keys. Unused entries hold 0.
@@ -202,18 +201,13 @@ impl Record {
         }
     }
 
-    // Any command on any record and any sheet: 1 to 9, 10, then the command.
+    // Any command on any record and any sheet: 1 to 10, then the command.
     fn answer(self, sheet: &[u8], bytes: &[u8]) -> Outcome
         ensures { λ r. ⌜ r ≡ outcomeFor (now (sheet .entry)) self (now (bytes .entry)) ⌝ }
     {
-        let checked = check_sheet(sheet);
-        let refusal = sheet_number(checked);
-        if refusal != 0 {
-            return self.refused(refusal);
-        }
         let m = self.marking;
         let f = self.firings;
-        if !is_sound(
+        let refusal = record_refusal(
             sheet,
             f.live,
             &f.transitions,
@@ -223,8 +217,9 @@ impl Record {
             m.count,
             &m.lo,
             &m.hi,
-        ) {
-            return self.refused(10);
+        );
+        if refusal != 0 {
+            return self.refused(refusal);
         }
         self.perform(sheet, bytes)
     }

@@ -5,23 +5,16 @@ use crate::Record;
 use live_list::LiveFirings;
 use live_list::list_live;
 use live_list::list_none;
-use sheet::check_sheet;
-use sheet::sheet_number;
-use sound::is_sound;
+use sound::record_refusal;
 
 impl Record {
     // The live firings in their order, with their number: 1 to 10 first; no firing and zeros where the call is refused.
     pub fn live_firings(self, sheet: &[u8]) -> LiveFirings
         ensures { λ r. ⌜ r ≡ liveFirings (now (sheet .entry)) self ⌝ }
     {
-        let checked = check_sheet(sheet);
-        let refusal = sheet_number(checked);
-        if refusal != 0 {
-            return list_none(refusal);
-        }
         let m = self.marking;
         let f = self.firings;
-        if !is_sound(
+        let refusal = record_refusal(
             sheet,
             f.live,
             &f.transitions,
@@ -31,8 +24,9 @@ impl Record {
             m.count,
             &m.lo,
             &m.hi,
-        ) {
-            return list_none(10);
+        );
+        if refusal != 0 {
+            return list_none(refusal);
         }
         list_live(&f.transitions, &f.keys, &f.moved, f.live)
     }

@@ -32,6 +32,9 @@ pub const RUN: usize = 23;
 
 pub const DIFFERED: usize = 24;
 
+// Blocks.
+pub const BLOCKS: usize = 30;
+
 // The first that differed: the seed, the command's number from 1 or the byte's from 0, ours, the second engine's, and what
 // differs.
 pub const FIRST: usize = 25;

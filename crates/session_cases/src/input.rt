@@ -41,7 +41,7 @@ fn advanced(
 }
 
 // How many bytes of a command are given: of the last one, 3, 1 or 2.
-fn size_of(left: u64, seed: u64) -> usize
+pub fn size_of(left: u64, seed: u64) -> usize
     ensures { λ r. ⌜ r ≤ 3 ⌝ }
 {
     if (left == 1) & (seed % 3 != 0) {

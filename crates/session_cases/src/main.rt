@@ -3,6 +3,7 @@
 // made of the second engine's replies (outputs). What is run stands in the file stdin, a row for each kind of sheet (generated, rows).
 // Prints for each how many commands or inputs were run and how many differed, with the first that did; how often each answer was met;
 // the counts that have to reach a floor; and what the program writes at the most commands that it reads.
+mod blocks;
 mod compare;
 mod counts;
 mod input;
@@ -12,6 +13,7 @@ mod outputs;
 mod play;
 mod writer;
 
+use blocks::generated_block;
 use case_tools::bytes::put_all;
 use case_tools::print::print_count;
 use case_tools::print::print_floor;
@@ -35,7 +37,8 @@ use samples::sheet_a;
 use samples::sheet_b;
 
 // Kinds of rows: 0 to 3 sessions on sheet A, on sheet B, on sheets within a plan's counts, on sheets that have them; 4 to 6 outputs on
-// the first three; 7 outputs that document 01 prints; 8 a count, 9 one that has a floor; else the most commands.
+// the first three; 7 outputs that document 01 prints; 8 a count, 9 one that has a floor; 10 the most commands; 12 to 15 blocks on
+// sheets as 0 to 3.
 fn write_one(buf: &mut [u8], w: &[u64], seed: u64) -> usize {
     let kind = get(w, 1) % 4;
     if kind == 0 {
@@ -57,10 +60,13 @@ fn run_one(c: &mut [u64], w: &[u64], letters: &[u8], seed: u64) {
     let mut buf = [0u8; 32768];
     let n = write_one(&mut buf, w, seed);
     let sheet = part(&buf, 0, n);
-    if get(w, 1) < 4 {
+    let kind = get(w, 1);
+    if kind < 4 {
         session(c, sheet, w, letters, seed);
-    } else {
+    } else if kind < 8 {
         generated_output(c, sheet, w, seed);
+    } else {
+        generated_block(c, sheet, w, seed);
     }
 }
 
@@ -119,7 +125,7 @@ fn run_row(c: &mut [u64], name: &[u8], letters: &[u8], w: &[u64]) {
         print_floor(name, get(c, at), get(w, 3));
         return;
     }
-    if 9 < kind {
+    if kind == 10 {
         print_limit(name, (get(w, 2) % 4294967296) as usize);
         return;
     }

@@ -26,11 +26,16 @@ use session::word_of;
 use session_start::start;
 use tally::Tally;
 
-// After a command on both: compared and counted.
-fn settle(c: &mut [u64], sheet: &[u8], s: &[u64], after: Counted, reply: u64, seed: u64, i: u64) {
+// An answer as a number: the word, and behind it the value.
+pub fn said(after: Counted) -> u64 {
     let o = after.outcome;
     let a = o.answer;
-    let ours = word_of(a) as u64 * 65536 + value_of(a, o.key) as u64;
+    word_of(a) as u64 * 65536 + value_of(a, o.key) as u64
+}
+
+// After a command on both: compared and counted.
+fn settle(c: &mut [u64], sheet: &[u8], s: &[u64], after: Counted, reply: u64, seed: u64, i: u64) {
+    let ours = said(after);
     let what = differs(after, ours, reply, s, byte(sheet, 2) as usize);
     count_command(c, sheet, s, reply);
     if what != 0 {
@@ -46,7 +51,7 @@ fn commanded(p: Counted, sheet: &[u8], bytes: &[u8]) -> Counted {
 }
 
 // One command's bytes, given to both.
-fn given(
+pub fn given(
     p: Counted,
     c: &mut [u64],
     sheet: &[u8],
@@ -161,7 +166,7 @@ fn advanced(
 }
 
 // A fresh record, and a tally that has one number in each count.
-fn begun(r: Record, tally: u16) -> Counted {
+pub fn begun(r: Record, tally: u16) -> Counted {
     let counts = Tally {
         fired: tally,
         undone: tally,

@@ -1,7 +1,7 @@
 -- Starting a session: one law for each return.
 -- Assumes nothing.
-use mathlib.Core.Path.{_≡_, sym, _∙_, ap}
-use mathlib.Core.Bool.{Bool, false}
+use mathlib.Core.Path.{_≡_, sym, _∙_, ap, subst}
+use mathlib.Core.Bool.{Bool, true, false}
 use mathlib.Core.List.{List, []}
 use Prim.Native.Nat.{ℕ}
 use lib.ListN.{replicate}
@@ -14,11 +14,13 @@ use Rattle.marking.specs.Form.{laid}
 use Rattle.marking.specs.declared.Marking.{Marking}
 use Rattle.firings.specs.Lines.{firingsOf}
 use Rattle.firings.specs.declared.Firings.{Firings}
-use Rattle.session.specs.Records.{recordOf}
+use Rattle.session.specs.Records.{recordOf, Sound}
 use Rattle.session.specs.Commands.{freshOf, zeroRecord, startOf}
 use Rattle.session.specs.declared.Record.{Record}
+use Rattle.session.specs.declared.Start.{Start}
+use Rattle.session.proofs.Begins.{fresh-sound}
 use Rattle.session.specs.declared.StartAnswer.the-variants.{Started, NotStarted}
-use Rattle.session.proofs.Answering.{sheet-clear, sheet-held}
+use Rattle.sound.proofs.Refusing.{sheet-clear, sheet-held}
 
 -- zeros in every array
 pub zeros : (f : Firings) → f ≡ firingsOf []
@@ -31,10 +33,18 @@ module _ (s : List ℕ) (n : ℕ) (e : n ≡ first (sheetChecks s)) where
   unfolding startOf
   refused r h z =
       let q : clear (sheetChecks s) ≡ false = sheet-held s n e h in
-      (λ i. record { answer = NotStarted (e i); session = z i }) ∙ sym (ap (λ (b : Bool). pick b (record { answer = Started; session = freshOf s }) (record { answer = NotStarted (first (sheetChecks s)); session = zeroRecord })) q)
+      (λ i. record { answer = NotStarted (e i); session = z i }) ∙ sym (ap (λ (b : Bool). pick {X = Start} b (record { answer = Started; session = freshOf s }) (record { answer = NotStarted (first (sheetChecks s)); session = zeroRecord })) q)
 
   pub started : (m : Marking) (f : Firings) → n ≡ 0 → m ≡ laid (startMarking s) → f ≡ firingsOf [] → record { answer = Started; session = record { marking = m; firings = f } } ≡ startOf s
   unfolding startOf freshOf recordOf netOf
   started m f h em ef =
       (λ i. record { answer = Started; session = record { marking = em i; firings = ef i } })
-      ∙ sym (ap (λ (b : Bool). pick b (record { answer = Started; session = freshOf s }) (record { answer = NotStarted (first (sheetChecks s)); session = zeroRecord })) (sheet-clear s n e h))
+      ∙ sym (ap (λ (b : Bool). pick {X = Start} b (record { answer = Started; session = freshOf s }) (record { answer = NotStarted (first (sheetChecks s)); session = zeroRecord })) (sheet-clear s n e h))
+
+-- a session that is started has a sound record
+pub started-sound : (s : List ℕ) (x : Start) → x ≡ startOf s → clear (sheetChecks s) ≡ true → Sound s (x .session)
+unfolding startOf
+started-sound s x e accepted =
+    let fresh : startOf s .session ≡ freshOf s =
+    ap (λ (b : Bool). pick {X = Start} b (record { answer = Started; session = freshOf s }) (record { answer = NotStarted (first (sheetChecks s)); session = zeroRecord }) .session) accepted in
+    subst (Sound s) (sym (ap (λ (y : Start). y .session) e ∙ fresh)) (fresh-sound s accepted)

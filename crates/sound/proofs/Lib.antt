@@ -2,3 +2,4 @@
 pub mod Lines
 pub mod Keys
 pub mod Tests
+pub mod Refusing

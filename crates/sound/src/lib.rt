@@ -2,10 +2,11 @@
 // its keys ascend, and its firings, run forward alone from the start, are accepted and end in its marking.
 ghost use mathlib.Core.Path.{_≡_};
 ghost use mathlib.Core.Bool.{true, _&&_};
+ghost use mathlib.Core.List.{[]};
 ghost use Prim.Native.Nat.{ℕ, _^_, _<_, _≤_};
 ghost use lib.ListN.{getD};
 ghost use Rattle.net.specs.Limits.{maxLive, maxBonds};
-ghost use Rattle.net.specs.Checks.{clear};
+ghost use Rattle.net.specs.Checks.{clear, first};
 ghost use Rattle.net.specs.Net.{Marking, arcsOf};
 ghost use Rattle.net.specs.Firing.{fire};
 ghost use Rattle.net.specs.History.{sameMarking, accepts, replays};
@@ -18,7 +19,7 @@ ghost use Rattle.marking.specs.Form.{markingOf, laid};
 ghost use Rattle.marking.specs.Held.{holding};
 ghost use Rattle.firings.specs.Lines.{lying, asLine, linesIn};
 ghost use Rattle.steps.specs.Placed.{Placed};
-ghost use Rattle.sound.specs.Soundness.{soundIn, LaidOut};
+ghost use Rattle.sound.specs.Soundness.{soundIn, LaidOut, checksIn, Passed};
 use firings::Firing;
 use firings::firing_at;
 use firings::firings_in_form;
@@ -33,6 +34,8 @@ use net::MAX_BASES;
 use net::MAX_BONDS;
 use net::MAX_LIVE;
 use net::Place;
+use sheet::check_sheet;
+use sheet::sheet_number;
 use steps::enable_refusal;
 use steps::fire_in;
 
@@ -179,7 +182,7 @@ fn runs_to<'a>(
 
 // Whether what a record holds is sound for the sheet; where it is, its arrays are laid out as what it holds is.
 // Callers have checked the sheet.
-pub fn is_sound<'a>(
+fn is_sound<'a>(
     sheet: &[u8],
     live: usize,
     transitions: &'a [u8; MAX_LIVE],
@@ -210,4 +213,35 @@ pub fn is_sound<'a>(
         return false;
     }
     runs_to(sheet, live, transitions, keys, moved, places, count, lo, hi)
+}
+
+// The first of 1 to 10 that holds, of any sheet and of what any record holds; 0 where none does. Every call on a record asks
+// for it first.
+pub fn record_refusal<'a>(
+    sheet: &[u8],
+    live: usize,
+    transitions: &'a [u8; MAX_LIVE],
+    keys: &'a [u16; MAX_LIVE],
+    moved: &'a [u64; MAX_LIVE],
+    places: &'a [Place; MAX_BASES],
+    count: usize,
+    lo: &'a [Base; MAX_BONDS],
+    hi: &'a [Base; MAX_BONDS],
+) -> u8
+    ensures { λ r. ⌜
+        r ≡ first (checksIn (now (sheet .entry)) (holding (now (places .entry)) count (now (lo .entry)) (now (hi .entry)))
+        (lying live (now (transitions .entry)) (now (keys .entry)) (now (moved .entry))) []) ⌝ }
+    ensures { λ r. ⌜
+        (r ≡ 0 → Passed (now (sheet .entry)) (holding (now (places .entry)) count (now (lo .entry)) (now (hi .entry)))
+        (lying live (now (transitions .entry)) (now (keys .entry)) (now (moved .entry)))) ⌝ }
+{
+    let checked = check_sheet(sheet);
+    let refusal = sheet_number(checked);
+    if refusal != 0 {
+        return refusal;
+    }
+    if !is_sound(sheet, live, transitions, keys, moved, places, count, lo, hi) {
+        return 10;
+    }
+    0
 }

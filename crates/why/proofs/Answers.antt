@@ -1,8 +1,8 @@
 -- The reason of any command on any record and sheet: by the sheet, by the record, by the command's own number.
 -- Assumes nothing.
 use mathlib.Core.Path.{_≡_, refl, sym, _∙_, ap}
-use mathlib.Core.Bool.{true, false}
-use mathlib.Core.List.{List}
+use mathlib.Core.Bool.{true}
+use mathlib.Core.List.{List, []}
 use Prim.Native.Nat.{ℕ, suc, _<_}
 use native.Mathlib.Omega.{arith}
 use borrow.Author.Tests.{ne-eqb, lt-ltb}
@@ -13,9 +13,10 @@ use Rattle.net.proofs.Journal.{Held, played}
 use Rattle.format.specs.NetOf.{netOf}
 use Rattle.sheet.specs.Checks.{sheetChecks}
 use Rattle.sheet.proofs.Accepted.{promised}
+use Rattle.sound.proofs.Refusing.{refused-first, of-sheet}
 use Rattle.tally.specs.declared.Tally.{Tally}
-use Rattle.session.specs.Records.{heldIn, recordOf, soundFor, Sound}
-use Rattle.session.specs.Commands.{commandChecks, freshOf}
+use Rattle.session.specs.Records.{heldIn, recordOf, Sound}
+use Rattle.session.specs.Commands.{recordChecks, commandChecks, freshOf}
 use Rattle.session.specs.Runs.{runOf}
 use Rattle.session.specs.declared.Record.{Record}
 use Rattle.session.proofs.Steps.{held-back, held-soundFor, follows-fresh}
@@ -23,7 +24,7 @@ use Rattle.why.specs.Why.{reasonFor, whyOf}
 use Rattle.why.specs.Turned.{Turned}
 use Rattle.why.specs.declared.Reason.{Reason}
 use Rattle.why.specs.declared.Reason.the-variants as Reason
-use Rattle.why.proofs.Numbers.{sheet-low, act-refused, first-sheet, first-record, first-own}
+use Rattle.why.proofs.Numbers.{sheet-low, act-refused, first-own}
 
 sheet-reason : (net : Net) (j : Journal) (c : List ℕ) (n : ℕ) → (n ≡ 0 → ⊥) → n < 10 → Reason.Sheet ≡ reasonFor net j c n
 unfolding reasonFor
@@ -43,11 +44,15 @@ module _ (s : List ℕ) (r : Record) (c : List ℕ) where
   unfolding whyOf
   why-by n e y h = h ∙ ap (reasonFor (netOf s) (heldIn s r) c) e
 
-  pub why-sheet : (n : ℕ) → n ≡ first (sheetChecks s) → (n ≡ 0 → ⊥) → Reason.Sheet ≡ whyOf s r c
-  why-sheet n e h = why-by n (sym (first-sheet s r c n e h)) Reason.Sheet (sheet-reason (netOf s) (heldIn s r) c n h (sheet-low s n e h))
+  pub why-sheet : (n : ℕ) → n ≡ first (recordChecks s r []) → (n ≡ 0 → ⊥) → (n ≡ 10 → ⊥) → Reason.Sheet ≡ whyOf s r c
+  why-sheet n e h t =
+      why-by n (refused-first s (r .marking) (r .firings) n e h (checks (netOf s) (heldIn s r) c)) Reason.Sheet
+      (sheet-reason (netOf s) (heldIn s r) c n h (sheet-low s n (of-sheet s (r .marking) (r .firings) n e h t) h))
 
-  pub why-record : clear (sheetChecks s) ≡ true → soundFor s r ≡ false → Reason.Record ≡ whyOf s r c
-  why-record a h = why-by 10 (sym (first-record s r c a h)) Reason.Record (record-reason (netOf s) (heldIn s r) c)
+  pub why-record : (n : ℕ) → n ≡ first (recordChecks s r []) → n ≡ 10 → Reason.Record ≡ whyOf s r c
+  why-record n e t =
+      let q : 10 ≡ first (recordChecks s r []) = sym t ∙ e in
+      why-by 10 (refused-first s (r .marking) (r .firings) 10 q (λ z. omega arith) (checks (netOf s) (heldIn s r) c)) Reason.Record (record-reason (netOf s) (heldIn s r) c)
 
 -- ---- the record of a journal
 

@@ -24,7 +24,7 @@ use Rattle.firings.proofs.Laid.{mem-at}
 use Rattle.session.specs.Records.{heldIn, soundFor}
 use Rattle.session.specs.Commands.{answerNumber, commandChecks}
 use Rattle.session.specs.declared.Record.{Record}
-use Rattle.session.proofs.Answering.{sheet-positive}
+use Rattle.sound.proofs.Refusing.{sheet-positive}
 use Rattle.session.proofs.Answers.{answer-number}
 use Rattle.session.proofs.Places.{place-found}
 use Rattle.reasons.proofs.Named.{away-holds, absent-holds, present-holds, torn-holds}

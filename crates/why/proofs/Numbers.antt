@@ -20,7 +20,7 @@ use Rattle.session.specs.Records.{heldIn, soundFor}
 use Rattle.session.specs.Commands.{commandChecks}
 use Rattle.session.specs.declared.Record.{Record}
 use Rattle.session.proofs.Steps.{first-clear}
-use Rattle.session.proofs.Answering.{sheet-positive}
+use Rattle.sound.proofs.Refusing.{sheet-positive}
 
 -- the first number of checks whose numbers all pass a test passes it, or is 0
 first-passes : (p : ℕ → Bool) (cs : List Check) → all (λ (c : Check). p (c .number)) cs ≡ true → (first cs ≡ 0 → ⊥) → p (first cs) ≡ true

@@ -38,9 +38,7 @@ use reasons::first_torn;
 use session::Answer;
 use session::Record;
 use session::command_with;
-use sheet::check_sheet;
-use sheet::sheet_number;
-use sound::is_sound;
+use sound::record_refusal;
 use tally::Tally;
 
 // The reason, by the number of document 01's list; what a variant holds is what the number is about.
@@ -230,14 +228,9 @@ fn reason_by(r: Record, sheet: &[u8], bytes: &[u8], n: u8) -> Reason
 pub fn why(r: Record, sheet: &[u8], bytes: &[u8]) -> Reason
     ensures { λ y. ⌜ y ≡ whyOf (now (sheet .entry)) r (now (bytes .entry)) ⌝ }
 {
-    let checked = check_sheet(sheet);
-    let refusal = sheet_number(checked);
-    if refusal != 0 {
-        return Reason::Sheet;
-    }
     let m = r.marking;
     let f = r.firings;
-    if !is_sound(
+    let refusal = record_refusal(
         sheet,
         f.live,
         &f.transitions,
@@ -247,8 +240,12 @@ pub fn why(r: Record, sheet: &[u8], bytes: &[u8]) -> Reason
         m.count,
         &m.lo,
         &m.hi,
-    ) {
+    );
+    if refusal == 10 {
         return Reason::Record;
+    }
+    if refusal != 0 {
+        return Reason::Sheet;
     }
     let n = number_of(r, sheet, bytes);
     reason_by(r, sheet, bytes, n)

@@ -3,7 +3,7 @@
 use mathlib.Core.Path.{sym, _∙_}
 use Prim.Native.Nat.{_-_}
 use Rattle.sound.proofs.Tests.{start-fits}
-use Rattle.session.proofs.Answering.{sheet-clear}
+use Rattle.sound.proofs.Refusing.{sheet-clear}
 use Rattle.session_start.proofs.Starting.{refused, started}
 use borrow.Author.Needs.{needs}
 use Rattle.session_start.proofs.start.Statement.{statement}

@@ -1,64 +1,48 @@
 -- `why::why` meets its contract.
 -- Assumes nothing but the laws of proofs/.
 use borrow.Author.Needs.{needs}
-use mathlib.Core.Path.{_≡_, sym, _∙_}
-use mathlib.Core.Bool.{true}
-use borrow.Author.Tests.{not-true, not-false}
-use Rattle.net.specs.Checks.{clear}
-use Rattle.sheet.specs.Checks.{sheetChecks}
-use Rattle.session.proofs.Answering.{sheet-clear, sound-of}
+use mathlib.Core.Path.{_∙_}
+use Rattle.sound.specs.Soundness.{Passed}
+use Rattle.session.proofs.Answering.{sound-of}
 use Rattle.why.proofs.Answers.{why-by, why-sheet, why-record}
 use Rattle.why.proofs.Numbers.{first-own}
 use Rattle.why.proofs.why.Statement.{statement}
 use Rattle.why.proofs.why.Tie as tie
 
-check-sheet-requires : tie.Need-check-sheet-requires
-check-sheet-requires c κs = search needs
+abbrev start : tie.After-record-refusal → tie.Start
+start d = d .before .before .before .before .before .before .before .before .before .before .before .before .before
 
-sheet-number-requires : tie.Need-sheet-number-requires
-sheet-number-requires c κs = search needs
+record-refusal-requires : tie.Need-record-refusal-requires
+record-refusal-requires c κs = search needs
 
 returns : tie.Need-returns
 returns c =
-    let s : tie.Start = c .before .before .before .before .before in
-    why-sheet (s .args .sheet .now) (s .args .r) (s .args .bytes .now) _ (c .before .sheet-number .ensures ∙ c .before .before .check-sheet .ensures .1) (c .if1 .taken)
-
-is-sound-requires : tie.Need-is-sound-requires
-is-sound-requires c κs =
-    let s : tie.Start = c .before .before .before .before .before .before .before .before .before .before .before .before .before .before .before in
-    sheet-clear (s .args .sheet .now) _ (c .before .before .before .before .before .before .before .before .before .before .before .sheet-number .ensures ∙ c .before .before .before .before .before .before .before .before .before .before .before .before .check-sheet .ensures .1) (c .before .before .before .before .before .before .before .before .before .before .if1 .left)
+    let d : tie.After-record-refusal = c .before in
+    let s : tie.Start = start d in
+    why-record (s .args .sheet .now) (s .args .r) (s .args .bytes .now) _ (d .record-refusal .ensures .0) (c .if1 .taken)
 
 returns-2 : tie.Need-returns-2
 returns-2 c =
-    let s : tie.Start = c .before .before .before .before .before .before .before .before .before .before .before .before .before .before .before .before .before in
-    let a : clear (sheetChecks (s .args .sheet .now)) ≡ true = sheet-clear (s .args .sheet .now) _ (c .before .before .before .before .before .before .before .before .before .before .before .before .before .sheet-number .ensures ∙ c .before .before .before .before .before .before .before .before .before .before .before .before .before .before .check-sheet .ensures .1) (c .before .before .before .before .before .before .before .before .before .before .before .before .if1 .left) in
-    why-record (s .args .sheet .now) (s .args .r) (s .args .bytes .now) a (sym (c .before .is-sound .ensures .0) ∙ not-true _ (c .if2 .taken))
+    let e : tie.Else1 = c .before in
+    let d : tie.After-record-refusal = e .before in
+    let s : tie.Start = start d in
+    why-sheet (s .args .sheet .now) (s .args .r) (s .args .bytes .now) _ (d .record-refusal .ensures .0) (c .if2 .taken) (e .if1 .left)
 
 number-of-requires : tie.Need-number-of-requires
 number-of-requires c κs = search needs
 
 reason-by-requires : tie.Need-reason-by-requires
 reason-by-requires c κs =
-    let s : tie.Start = c .before .before .before .before .before .before .before .before .before .before .before .before .before .before .before .before .before .before in
-    let a : clear (sheetChecks (s .args .sheet .now)) ≡ true = sheet-clear (s .args .sheet .now) _ (c .before .before .before .before .before .before .before .before .before .before .before .before .before .before .sheet-number .ensures ∙ c .before .before .before .before .before .before .before .before .before .before .before .before .before .before .before .check-sheet .ensures .1) (c .before .before .before .before .before .before .before .before .before .before .before .before .before .if1 .left) in
-    let yes = not-false _ (c .before .if2 .left) in
-    let h = sym (c .before .before .is-sound .ensures .0) ∙ yes in
-    (sound-of (s .args .sheet .now) (s .args .r) a h (c .before .before .is-sound .ensures .1 yes), c .number-of .ensures ∙ first-own (s .args .sheet .now) (s .args .r) (s .args .bytes .now) a h)
+    let l : tie.Else2 = c .before in
+    let d : tie.After-record-refusal = l .before .before in
+    let s : tie.Start = start d in
+    let p : Passed (s .args .sheet .now) (s .args .r .marking) (s .args .r .firings) = d .record-refusal .ensures .1 (l .if2 .left) in
+    (sound-of (s .args .sheet .now) (s .args .r) p, c .number-of .ensures ∙ first-own (s .args .sheet .now) (s .args .r) (s .args .bytes .now) (p .accepted) (p .sound))
 
 returns-3 : tie.Need-returns-3
 returns-3 c =
-    let s : tie.Start = c .before .before .before .before .before .before .before .before .before .before .before .before .before .before .before .before .before .before .before in
+    let s : tie.Start = start (c .before .before .before .before) in
     why-by (s .args .sheet .now) (s .args .r) (s .args .bytes .now) (c .before .number-of .result) (c .before .number-of .ensures) _ (c .reason-by .ensures)
 
 pub why-spec : {M : Type 1} → statement M
-why-spec =
-    tie.close
-    (tie.spec
-    check-sheet-requires
-    sheet-number-requires
-    returns
-    is-sound-requires
-    returns-2
-    number-of-requires
-    reason-by-requires
-    returns-3)
+why-spec = tie.close (tie.spec record-refusal-requires returns returns-2 number-of-requires reason-by-requires returns-3)

@@ -1,10 +1,10 @@
--- `singly::run_singly` meets its contract.
+-- `timed::singly::run_singly` is safe and ends.
 -- Assumes nothing.
 use borrow.Author.Needs.{needs}
 use Prim.Native.Nat.{_+_, _-_, _≤_}
 use lib.ListN.{length}
-use Rattle.singly.proofs.run_singly.Statement.{statement}
-use Rattle.singly.proofs.run_singly.Tie as tie
+use Rattle.timed.proofs.singly.run_singly.Statement.{statement}
+use Rattle.timed.proofs.singly.run_singly.Tie as tie
 
 abbrev Inv-loop : tie.InvT-loop
 Inv-loop sheet commands session₀ counts₀ sum₀ at₀ session counts sum at = at ≤ length commands + 2
@@ -39,9 +39,6 @@ loop-again c = search needs
 print-sum-requires : tie.Need-print-sum-requires Inv-loop μ-loop
 print-sum-requires c κs = search needs
 
-print-tally-requires : tie.Need-print-tally-requires Inv-loop μ-loop
-print-tally-requires c κs = search needs
-
 returns : tie.Need-returns Inv-loop μ-loop
 returns c = search needs
 
@@ -60,5 +57,4 @@ run-singly-spec =
     loop-less
     loop-again
     print-sum-requires
-    print-tally-requires
     returns)

@@ -1,0 +1,87 @@
+// Questions at the desk and their answers: about the record, the last refusal, the sheet, the pages of live firings.
+// The answer is written from the buffer's start.
+use crate::answer::put_couplings;
+use crate::answer::put_live;
+use crate::answer::put_moved;
+use crate::answer::put_step;
+use crate::answer::put_tally;
+use crate::answer::put_where;
+use crate::changed::put_cut;
+use crate::changed::put_with;
+use crate::form::Question;
+use crate::pages::put_page;
+use crate::pages::put_row;
+use crate::part::front;
+use crate::put::put_phrase;
+use crate::reason::put_reason;
+use crate::refused::put_refused;
+use crate::sheets::plus;
+use crate::state::Desk;
+use format::base_count;
+use session::StartAnswer;
+use session_start::start;
+use why::why;
+
+// The number that a start was refused by; 0 where it was not.
+pub fn start_refusal(a: StartAnswer) -> u8 {
+    match a {
+        StartAnswer::Started => 0,
+        StartAnswer::NotStarted(n) => n,
+    }
+}
+
+// Why a block of so many bytes was refused by 26.
+fn put_block_refused(answer: &mut [u8], bytes: usize) -> usize {
+    put_phrase(
+        answer,
+        b"the block has # commands and 1000 are the most",
+        plus(bytes, 2) / 3,
+        0,
+        0,
+        0,
+    )
+}
+
+// Why the last command or block was refused; a refused sheet has its own reason.
+fn put_why(d: Desk, sheet: &[u8], answer: &mut [u8]) -> usize {
+    let r = d.record;
+    let c = d.command;
+    let bytes = [c.a, c.b, c.c, c.d];
+    let s = front(sheet, d.length);
+    let first = start(s);
+    let refused = first.answer;
+    let n = start_refusal(refused);
+    if n != 0 {
+        return put_refused(answer, s, n);
+    }
+    if !d.asked {
+        return put_reason(answer, why::Reason::Nothing);
+    }
+    if d.refusal == 0 {
+        return put_reason(answer, why::Reason::Nothing);
+    }
+    if d.refusal == 26 {
+        return put_block_refused(answer, d.block_bytes);
+    }
+    put_reason(answer, why(r, s, front(&bytes, c.n)))
+}
+
+pub fn put_question(d: Desk, q: Question, line: &[u8], sheet: &[u8], answer: &mut [u8]) -> usize {
+    let r = d.record;
+    let m = r.marking;
+    let t = d.tally;
+    let s = front(sheet, d.length);
+    match q {
+        Question::Where => put_where(answer, m, base_count(s) as usize),
+        Question::Couplings => put_couplings(answer, m),
+        Question::Live => put_live(answer, r),
+        Question::Moved(k) => put_moved(answer, r, k),
+        Question::StepOf(k) => put_step(answer, r, k),
+        Question::Tally => put_tally(answer, t),
+        Question::Why => put_why(d, sheet, answer),
+        Question::With(n) => put_with(line, n, s, answer),
+        Question::Cut(n) => put_cut(line, n, s, answer),
+        Question::Page(k) => put_page(answer, r, s, k),
+        Question::Row(k, i) => put_row(answer, r, s, k, i),
+    }
+}

@@ -1,0 +1,72 @@
+// For the measurement (bench/run): runs the commands of its input in each of the ways that its words name, and prints the sum of
+// the keys and the tally for each. Reads what the exam program reads, up to 65,536 bytes.
+// `singly`: each command by the single call; `blocks`: by the block call, 1,000 at a time; `run`: as one list, nothing checked.
+// What stdout has was printed by the plain Rust program there, once for each word.
+mod blocks;
+mod singly;
+mod sum;
+
+ghost use Prim.Native.Nat.{_≤_};
+ghost use lib.ListN.{length};
+use blocks::run_blocks;
+use blocks::run_list;
+use format::word_at;
+use singly::run_singly;
+
+// Whether the word at i begins with a letter.
+fn begins(i: usize, letter: u8) -> bool {
+    let mut word = io::buffer();
+    os::arg(i, &mut word);
+    word[0] == letter
+}
+
+// The commands in the way that the word at i names.
+fn run_as(i: usize, sheet: &[u8], commands: &[u8])
+    requires { ⌜ length (now commands) ≤ 65536 ⌝ }
+{
+    if begins(i, b's') {
+        run_singly(sheet, commands);
+    }
+    if begins(i, b'b') {
+        run_blocks(sheet, commands);
+    }
+    if begins(i, b'r') {
+        run_list(sheet, commands);
+    }
+}
+
+fn run_all(sheet: &[u8], commands: &[u8])
+    requires { ⌜ length (now commands) ≤ 65536 ⌝ }
+{
+    let count = os::arg_count();
+    let mut i = 1;
+    while i < count {
+        run_as(i, sheet, commands);
+        i += 1;
+    }
+}
+
+// Where the sheet begins and where it ends: missing bytes shorten it.
+fn at_most(n: usize, most: usize) -> usize
+    ensures { λ r. ⌜ (r ≤ n) × (r ≤ most) ⌝ }
+{
+    if n < most { n } else { most }
+}
+
+fn parted(input: &[u8])
+    requires { ⌜ length (now input) ≤ 65536 ⌝ }
+{
+    let n = input.len();
+    let begin = at_most(2, n);
+    let end = at_most(2 + word_at(input, 0), n);
+    if end < begin {
+        return;
+    }
+    run_all(&input[begin..end], &input[end..n]);
+}
+
+fn main() {
+    let mut input = io::large_buffer();
+    let n = io::read_full(0, &mut input);
+    parted(&input[..n]);
+}
