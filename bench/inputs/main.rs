@@ -126,19 +126,19 @@ fn out_of_order(n: usize) -> impl Iterator<Item = Command> {
         let (step, serial) = unblocked.pop_front().expect("at least one is live");
         commands.push(undo(serial));
         commands.push(fire(step));
-        if n == 1 {
-            next = 1; // nothing was live, so serials begin again
-        }
         unblocked.push_back((step, next));
         next += 1;
     }
     commands.into_iter().take(COMMANDS)
 }
 
-/// n steps all fire, and are taken back oldest first; then again. With none live the serials begin again.
+/// n steps all fire, and are taken back oldest first; then again, with the serials that follow.
 fn oldest_first(n: usize) -> impl Iterator<Item = Command> {
-    let round: Vec<Command> = (0..n).map(fire).chain((1..=n).map(undo)).collect();
-    round.into_iter().cycle().take(COMMANDS)
+    let round = move |i: usize| {
+        let serials = i * n + 1..=(i + 1) * n;
+        (0..n).map(fire).chain(serials.map(undo))
+    };
+    (0..).flat_map(round).take(COMMANDS)
 }
 
 /// 200 firings stand, and everything after them is refused.

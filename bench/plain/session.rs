@@ -1,4 +1,4 @@
-// A session in place: places, couplings as a word of neighbours for each part, the live firings, the tally.
+// A session in place: places, couplings as a word of neighbours for each part, the live firings, the highest serial given, the tally.
 // A set of parts is one machine word.
 
 use crate::sheet::{Coupling, Entry, Net, Step};
@@ -152,6 +152,8 @@ impl Marking {
 pub struct Session {
     pub marking: Marking,
     pub live: Vec<Firing>,
+    /// The highest serial given so far; a taking back leaves it.
+    pub given: u16,
 }
 
 impl Session {
@@ -159,9 +161,11 @@ impl Session {
         Session {
             marking: Marking::start(net),
             live: Vec::with_capacity(MAX_LIVE),
+            given: 0,
         }
     }
 
+    /// The highest live serial, or 0.
     fn highest(&self) -> u16 {
         self.live.last().map_or(0, |f| f.serial)
     }
@@ -177,10 +181,11 @@ impl Session {
         if self.live.len() == MAX_LIVE {
             return Answer::Refused(17);
         }
-        let Some(serial) = self.highest().checked_add(1) else {
+        let Some(serial) = self.given.checked_add(1) else {
             return Answer::Refused(18);
         };
         let moved = self.marking.fire(step);
+        self.given = serial;
         self.live.push(Firing {
             step: number as u8,
             serial,
@@ -216,11 +221,12 @@ impl Session {
         }
     }
 
-    /// 10: whether the live firings, run forward alone from the start, give this very session.
+    /// 10: whether the live firings, run forward alone from the start, give this very session, and none has a serial above
+    /// the highest given.
     pub fn is_sound(&self, net: &Net) -> bool {
         let ascending = self.live.windows(2).all(|w| w[0].serial < w[1].serial);
         let from_one = self.live.first().is_none_or(|f| f.serial >= 1);
-        if self.live.len() > MAX_LIVE || !ascending || !from_one {
+        if self.live.len() > MAX_LIVE || !ascending || !from_one || self.given < self.highest() {
             return false;
         }
         let mut marking = Marking::start(net);

@@ -11,6 +11,7 @@ use Rattle.claims.proofs.Counts.{session-totals}
 use Rattle.claims.proofs.Published.{demand2-published}
 use Rattle.claims.proofs.Pages.{pages}
 use Rattle.claims.proofs.Blocks.{blocks}
+use Rattle.claims.proofs.Serials.{serials}
 
 pub demands : Demands
 demands = record {
@@ -24,5 +25,6 @@ demands = record {
   demand3 = λ s accepted. let P = promised s accepted in demand3 s accepted (P .rule) (P .bases .1);
   totals = λ s accepted. let P = promised s accepted in session-totals s accepted (P .rule) (P .bases .1);
   pages = pages;
+  serials = λ s accepted. let P = promised s accepted in serials s accepted (P .rule) (P .bases .1);
   blocks = blocks;
 }

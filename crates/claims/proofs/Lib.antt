@@ -8,5 +8,6 @@ pub mod Counts
 pub mod Published
 pub mod Pages
 pub mod Blocks
+pub mod Serials
 pub mod Demands
 pub mod Instances

@@ -1,28 +1,30 @@
 -- Commands do what the published definition does: on every record that passes refusal 10's test, and on every record that a
 -- session can reach, which is such a one. Assumes an accepted sheet.
 use mathlib.Core.Path.{_≡_, refl, sym, _∙_, ap, subst, subst⁻¹}
-use mathlib.Core.Logic.{_⊎_}
+use mathlib.Core.Logic.{_⊎_, inl, inr}
 use mathlib.Core.Bool.{Bool, true, false, not, _&&_, _||_}
-use mathlib.Core.List.{List}
-use Prim.Native.Nat.{ℕ, _≤_}
+use mathlib.Core.List.{List, [], _∷_, map}
+use Prim.Native.Nat.{ℕ, suc, _≤_}
 use lib.Dec.{eqb}
 use borrow.Author.Tests.{eqb-true, not-false}
+use Rattle.causal.specs.Lists.{Mem}
 use Rattle.causal.proofs.Tests.{both}
 use Rattle.net.specs.Limits.{maxBases}
 use Rattle.net.specs.Tests.{pick}
 use Rattle.net.specs.Rules.{netRule}
 use Rattle.net.specs.Checks.{clear, first}
-use Rattle.net.specs.Journal.{LiveLine, Journal, Reply, key, kindOf, numberOf, highestLive, lineOf, without, transitionNamed, keyNamed, readChecks, enableChecks, spaceChecks, fireChecks, undoChecks, kindChecks, checks, newLine, fireReply, undoReply, refuse, begin, act, play}
+use Rattle.net.specs.Journal as J
+use Rattle.net.specs.Journal.{LiveLine, Journal, Reply, key, kindOf, numberOf, highestLive, lastGiven, lineOf, without, transitionNamed, keyNamed, readChecks, enableChecks, spaceChecks, fireChecks, undoChecks, kindChecks, checks, newLine, fireReply, undoReply, refuse, begin, act, play, answers}
 use Rattle.net.specs.declared.Key.{Key}
 use Rattle.net.specs.declared.Transition.{Transition}
 use Rattle.net.proofs.Tests.{and-l, and-i, or-e, or-no-l}
 use Rattle.net.proofs.Checks.{clear-off, clear-append}
 use Rattle.net.proofs.Journal.{Held, checks-kind, begin-held, played}
-use Rattle.published.specs.Sets.{Iff}
-use Rattle.published.specs.Forward.{firedMarks, firedKeys}
+use Rattle.published.specs.Sets.{Iff, Max}
+use Rattle.published.specs.Forward.{firedMarks, keysWith, firedKeys}
 use Rattle.published.specs.Backtracking.{reversedMarks, reversedKeys}
 use Rattle.published.specs.Causal.{Order, firedOrder, reversedOrder}
-use Rattle.published.specs.Sheets.{petriNet, marksOf, historyOf, orderOfLines, laterWithCommon}
+use Rattle.published.specs.Sheets.{petriNet, marksOf, historyOf, givenAndZero, orderOfLines, laterWithCommon}
 use Rattle.published.specs.Claims as P
 use Rattle.published.proofs.Sessions.{line-listed}
 use Rattle.published.proofs.Keys.{undo-mem, undo-key}
@@ -37,12 +39,13 @@ use Rattle.sheet.proofs.Accepted.{promised}
 use Rattle.tally.specs.declared.Tally.{Tally}
 use Rattle.session.specs.Records.{heldIn, soundFor}
 use Rattle.session.specs.Commands.{freshOf, answerOf, keyOf, commandOf}
+use Rattle.session.specs.Runs.{Answered, answered}
 use Rattle.session.specs.declared.Record.{Record}
 use Rattle.session.specs.declared.Answer.{Answer}
 use Rattle.session.specs.declared.Answer.the-variants.{Fired, Undone, Refused}
 use Rattle.session.proofs.Steps.{held-back, held-soundFor, follows-fresh}
 use Rattle.claims.specs.Sessions.{sessionAfter}
-use Rattle.claims.specs.Published.{marksIn, historyIn, orderIn, recordAfter, CommandFires, CommandTakesBack, RecordAsPublished, RecordKeysAsPublished, FollowsPublished, Demand2Published}
+use Rattle.claims.specs.Published.{marksIn, historyIn, givenIn, firedAs, answeredAndZero, orderIn, recordAfter, CommandFires, CommandTakesBack, RecordAsPublished, RecordKeysAsPublished, FollowsPublished, Demand2Published}
 use Rattle.claims.proofs.Records.{passes-held, answer-is, key-is, journal-is}
 
 -- ---- answers
@@ -56,6 +59,34 @@ abbrev isUndone : Answer → Bool
 isUndone Fired = false
 isUndone Undone = true
 isUndone (Refused n) = false
+
+-- ---- the keys in a session's answers are those in the journal's
+
+was-fired : (a : J.Answer) (k : ℕ) → firedAs k ≡ answered a → J.fired (key k) ≡ a
+was-fired (J.fired h) k e = ap (λ (x : Answered). J.fired (x .key)) e
+was-fired (J.undone h) k e = both false (sym (ap (λ (x : Answered). isFired (x .answer)) e)) refl
+was-fired (J.refused n) k e = both false (sym (ap (λ (x : Answered). isFired (x .answer)) e)) refl
+
+answered-to : (rs : List J.Answer) (k : ℕ) → Mem (J.fired (key k)) rs → Mem (firedAs k) (map answered rs)
+answered-to [] k m = absurd m
+answered-to (a ∷ rs) k (inl e) = inl (ap answered e)
+answered-to (a ∷ rs) k (inr m) = inr (answered-to rs k m)
+
+answered-from : (rs : List J.Answer) (k : ℕ) → Mem (firedAs k) (map answered rs) → Mem (J.fired (key k)) rs
+answered-from [] k m = absurd m
+answered-from (a ∷ rs) k (inl e) = inl (was-fired a k e)
+answered-from (a ∷ rs) k (inr m) = inr (answered-from rs k m)
+
+highest-answered : (rs : List J.Answer) (g : ℕ) → Max (givenAndZero rs) g → Max (answeredAndZero (map answered rs)) g
+highest-answered rs g (x, f) = (to x, λ k h. below k h)
+  where
+    to : givenAndZero rs g → answeredAndZero (map answered rs) g
+    to (inl e) = inl e
+    to (inr m) = inr (answered-to rs g m)
+
+    below : (k : ℕ) → answeredAndZero (map answered rs) k → k ≤ g
+    below k (inl e) = f k (inl e)
+    below k (inr m) = f k (inr (answered-from rs k m))
 
 -- ---- a command on a journal
 
@@ -120,8 +151,8 @@ module _ (s : List ℕ) (accepted : clear (sheetChecks s) ≡ true) (ok : netRul
   H : Held (netOf s) (heldIn s r)
   H = passes-held s accepted ok few r passes
 
-  answered : (t : Tally) (c : List ℕ) → commandOf s r t c .outcome .answer ≡ answerOf (act (netOf s) (heldIn s r) c .answer)
-  answered = answer-is s accepted ok few r passes
+  answers-as : (t : Tally) (c : List ℕ) → commandOf s r t c .outcome .answer ≡ answerOf (act (netOf s) (heldIn s r) c .answer)
+  answers-as = answer-is s accepted ok few r passes
 
   -- what the record holds after a command, and its key, by the journal's reply
   journal-by : (t : Tally) (c : List ℕ) (y : Reply) → act (netOf s) j c ≡ y → heldIn s (commandOf s r t c .outcome .session) ≡ y .journal
@@ -130,11 +161,25 @@ module _ (s : List ℕ) (accepted : clear (sheetChecks s) ≡ true) (ok : netRul
   key-by : (t : Tally) (c : List ℕ) (y : Reply) → act (netOf s) j c ≡ y → keyOf (y .answer) ≡ commandOf s r t c .outcome .key
   key-by t c y e = sym (key-is s accepted ok few r passes t c ∙ ap (λ (x : Reply). keyOf (x .answer)) e)
 
+  -- a command that is answered Fired is the journal's firing
+  was-firing : (t : Tally) (c : List ℕ) → commandOf s r t c .outcome .answer ≡ Fired → act (netOf s) j c ≡ fireReply (netOf s) j (transitionNamed c)
+  was-firing t c e = let (p, q) = fired-clear s j c (sym (answers-as t c) ∙ e) in reply-is s j c true true p q
+
+  after-firing : (t : Tally) (c : List ℕ) → commandOf s r t c .outcome .answer ≡ Fired → heldIn s (recordAfter s r t c) ≡ fireReply (netOf s) j (transitionNamed c) .journal
+  after-firing t c e = journal-by t c (fireReply (netOf s) j (transitionNamed c)) (was-firing t c e)
+
   keys-held : RecordKeysAsPublished s r
-  keys-held t c e u k =
-      let (p, q) = fired-clear s j c (sym (answered t c) ∙ e) in
-      let after = journal-by t c (fireReply (netOf s) j (transitionNamed c)) (reply-is s j c true true p q) in
-      subst⁻¹ (λ (x : Journal). Iff (historyOf x u k) (firedKeys (petriNet (netOf s)) (historyIn s r) (transitionNamed c) u k)) after (fired-keys (netOf s) ok j H (transitionNamed c) u k)
+  keys-held =
+      let K : P.JournalKeysAsPublished (netOf s) (heldIn s r) = fired-keys (netOf s) ok j H in
+      record {
+        fired = λ t c e u k. subst⁻¹ (λ (x : Journal). Iff (historyOf x u k) (keysWith (historyIn s r) (transitionNamed c) (suc (givenIn s r)) u k)) (after-firing t c e) (K .fired (transitionNamed c) u k);
+        answered = λ t c e. sym (key-by t c (fireReply (netOf s) j (transitionNamed c)) (was-firing t c e));
+        above = K .above;
+        highest = K .highest;
+        definition5 = λ t c e. subst⁻¹
+            (λ (x : Journal). Iff (givenIn s r ≡ highestLive (heldIn s r .lines) .0) ((u : Transition) (k : ℕ) → Iff (historyOf x u k) (firedKeys (petriNet (netOf s)) (historyIn s r) (transitionNamed c) u k)))
+            (after-firing t c e) (K .definition5 (transitionNamed c));
+      }
 
   module _ (R : Order) (A : Agrees (heldIn s r) R) where
     shown : P.JournalAsPublished (netOf s) (heldIn s r) R
@@ -150,7 +195,7 @@ module _ (s : List ℕ) (accepted : clear (sheetChecks s) ≡ true) (ok : netRul
         let y : act (netOf s) j c ≡ fireReply (netOf s) j v = reply-is s j c true true p q in
         let after : heldIn s (recordAfter s r t c) ≡ fireReply (netOf s) j v .journal = journal-by t c (fireReply (netOf s) j v) y in
         record {
-          answer = answered t c ∙ ap (λ (x : Reply). answerOf (x .answer)) y;
+          answer = answers-as t c ∙ ap (λ (x : Reply). answerOf (x .answer)) y;
           marking = λ x i. subst⁻¹ (λ (h : Journal). Iff (marksOf (netOf s) (h .marking) x i) (firedMarks (petriNet (netOf s)) (marksIn s r) v x i)) after (shown .fires v e x i);
           line = (newLine (netOf s) j v, ap (λ (h : Journal). h .lines) after, record { transition = refl; key = key-by t c (fireReply (netOf s) j v) y; moved = shown .moves v e });
           order = λ u i w k. subst⁻¹ (λ (h : Journal). Iff (laterWithCommon h u i w k) (firedOrder (petriNet (netOf s)) (marksIn s r) (historyOf h) R v u i w k)) after (shown .orderFired v e u i w k);
@@ -169,7 +214,7 @@ module _ (s : List ℕ) (accepted : clear (sheetChecks s) ≡ true) (ok : netRul
         let after : heldIn s (recordAfter s r t c) ≡ undoReply (netOf s) j n .journal = journal-by t c (undoReply (netOf s) j n) y in
         let its : l .key ≡ n = λ i. record { 0 = undo-key (netOf s) ok j H n e i } in
         record {
-          answer = answered t c ∙ ap (λ (x : Reply). answerOf (x .answer)) y;
+          answer = answers-as t c ∙ ap (λ (x : Reply). answerOf (x .answer)) y;
           marking = λ x i. subst⁻¹ (λ (h : Journal). Iff (marksOf (netOf s) (h .marking) x i) (reversedMarks (petriNet (netOf s)) (marksIn s r) v x i)) after (shown .undoes n e x i);
           keys = λ u k. subst⁻¹ (λ (h : Journal). Iff (historyOf h u k) (reversedKeys (historyIn s r) v u k)) after (shown .undoneKeys n e u k);
           line = (
@@ -193,7 +238,7 @@ module _ (s : List ℕ) (accepted : clear (sheetChecks s) ≡ true) (ok : netRul
     was-undone : (t : Tally) (c : List ℕ) (k : Key) → keyNamed j c ≡ k → commandOf s r t c .outcome .answer ≡ Undone
         → (clear (undoChecks j k) ≡ true) × petriNet (netOf s) .isTransition (lineOf k (j .lines) .transition) × CommandTakesBack s r R t c (lineOf k (j .lines) .transition)
     was-undone t c k same a =
-        let (p, q) = undone-clear s j c (sym (answered t c) ∙ a) in
+        let (p, q) = undone-clear s j c (sym (answers-as t c) ∙ a) in
         let e : clear (undoChecks j k) ≡ true = subst (λ (x : Key). clear (undoChecks j x) ≡ true) same (undoable c p q) in
         (e, line-listed (netOf s) ok j H (lineOf k (j .lines)) (undo-mem (netOf s) ok j H k e), subst (λ (x : Key). CommandTakesBack s r R t c (lineOf x (j .lines) .transition)) same (takes-back t c p q))
 
@@ -204,7 +249,7 @@ module _ (s : List ℕ) (accepted : clear (sheetChecks s) ≡ true) (ok : netRul
       fires = λ t c read one space D.
           fires-to t c (clear-own s j c read (clear-fire s j c one ∙ and-i (clear (enableChecks (netOf s) (j .marking) (transitionNamed c))) (clear (spaceChecks j)) (shown .enabled (transitionNamed c) .1 D) space)) one;
       firesOnly = λ t c e.
-          let (p, q) = fired-clear s j c (sym (answered t c) ∙ e) in
+          let (p, q) = fired-clear s j c (sym (answers-as t c) ∙ e) in
           let (listed, D) = shown .enabled (transitionNamed c) .0 (enabled-now c p q) in
           (q, listed, D, fires-to t c p q);
       undoesLast = λ t c read two v D. by-key t c (highestLive (j .lines)) v read (not-one s j c 2 two refl) (key-two s j c two) (shown .last v .1 D);
@@ -218,7 +263,7 @@ module _ (s : List ℕ) (accepted : clear (sheetChecks s) ≡ true) (ok : netRul
           let (e, listed, T) = was-undone t c k (key-three s j c three) a in
           let (D, x) = shown .causal k (lineOf k (j .lines) .transition) .0 (e, refl) in
           (lineOf k (j .lines) .transition, listed, D, x, T);
-      undoesKinds = λ t c a. let (p, q) = undone-clear s j c (sym (answered t c) ∙ a) in kinds s j c p q;
+      undoesKinds = λ t c a. let (p, q) = undone-clear s j c (sym (answers-as t c) ∙ a) in kinds s j c p q;
       order = A;
     }
 
@@ -249,6 +294,9 @@ module _ (s : List ℕ) (accepted : clear (sheetChecks s) ≡ true) (ok : netRul
         sound = λ _ r h. record-published s accepted ok few r h (orderOfLines (netOf s) (heldIn s r .lines)) (lines-order (netOf s) ok (heldIn s r) (passes-held s accepted ok few r h));
         keys = λ cs t. keys-held s accepted ok few (sessionAfter s cs t .session) (session-passes cs t);
         soundKeys = λ r h. keys-held s accepted ok few r h;
+        given = λ cs t. subst⁻¹ (λ (x : Journal). Max (answeredAndZero (sessionAfter s cs t .answers)) (lastGiven x .0)) (holds cs t)
+            (subst⁻¹ (λ (rs : List Answered). Max (answeredAndZero rs) (lastGiven (play (netOf s) cs (begin (netOf s))) .0)) (follows-fresh s accepted ok few cs t .answers)
+            (highest-answered (answers (netOf s) cs (begin (netOf s))) (lastGiven (play (netOf s) cs (begin (netOf s))) .0) (N .given cs)));
       }
 
 pub demand2-published : Demand2Published

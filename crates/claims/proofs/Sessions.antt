@@ -11,7 +11,7 @@ use Rattle.net.specs.Checks.{clear}
 use Rattle.net.specs.Firing.{inSet}
 use Rattle.net.specs.Journal.{LiveLine, Journal}
 use Rattle.net.specs.Claims.{fireCommands}
-use Rattle.net.specs.History.{linesInForm, replays}
+use Rattle.net.specs.History.{givenInForm, linesInForm, replays}
 use Rattle.net.proofs.Tests.{and-l}
 use Rattle.net.proofs.Keys.{up-distinct}
 use Rattle.net.proofs.Journal.{Held}
@@ -46,7 +46,7 @@ module _ (s : List ℕ) (accepted : clear (sheetChecks s) ≡ true) (ok : netRul
       record {
         session = y .session;
         answers = y .answers;
-        serials = and-l (linesInForm (journalAfter s cs .lines)) (replays (netOf s) (netOf s .start) (journalAfter s cs .lines) (journalAfter s cs .marking)) (journal-sound (netOf s) ok cs);
+        serials = and-l (linesInForm (journalAfter s cs .lines)) (replays (netOf s) (netOf s .start) (journalAfter s cs .lines) (journalAfter s cs .marking)) (and-l _ (givenInForm (journalAfter s cs)) (journal-sound (netOf s) ok cs));
         inOrder = forward (journalAfter s cs .lines) (journalAfter s cs .marking) (D .inOrder);
         reordered = λ ls R. forward ls (journalAfter s cs .marking) (D .reordered ls R);
       }

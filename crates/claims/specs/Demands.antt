@@ -15,7 +15,7 @@ use Rattle.net.specs.Net.{Marking}
 use Rattle.net.specs.Checks.{Check, check, clear, first}
 use Rattle.net.specs.Firing.{inSet}
 use Rattle.net.specs.Connection.{Leads, connected}
-use Rattle.net.specs.Journal.{LiveLine, kindOf, transitionNamed, keyNamed, fireReply, undoReply, begin, answers}
+use Rattle.net.specs.Journal.{LiveLine, key, kindOf, transitionNamed, keyNamed, fireReply, undoReply, begin, answers}
 use Rattle.net.specs.History.{linesInForm}
 use Rattle.net.specs.Claims.{fireCommands, numbered, allFired, Totals}
 use Rattle.net.specs.declared.Bond.{Bond}
@@ -36,6 +36,7 @@ use Rattle.firings.specs.declared.Firing.{Firing}
 use Rattle.claims.specs.Published.{Demand2Published}
 use Rattle.claims.specs.Pages.{Pages}
 use Rattle.claims.specs.Blocks.{Blocks}
+use Rattle.claims.specs.Serials.{Serials}
 
 -- ---- What the definitions of firing rest on
 
@@ -97,12 +98,13 @@ pub record Demand2 (s : List ℕ) (r : Record) (t : Tally) (c : List ℕ) : Type
 -- ---- Demand 3: one claim about a whole list of commands on an accepted sheet, from a fresh record
 
 -- The lines' transitions, given as commands of kind 1 and nothing else from another fresh record, with any tally: each is
--- answered `fired`, each moves the bases on its line, and the record ends in exactly the marking z.
+-- answered `fired`, each moves the bases on its line, and the record ends in exactly the marking z. The run's keys are its own, from
+-- 1 up, and its highest given is the number of lines (02, T-03).
 pub record ForwardRun (s : List ℕ) (ls : List LiveLine) (z : Marking) (t : Tally) : Type 0 where
   pub fired : sessionAfter s (fireCommands ls) t .answers ≡ map answered (allFired 0 ls)
-  pub session : sessionAfter s (fireCommands ls) t .session ≡ recordOf (record { marking = z; lines = numbered 0 ls })
+  pub session : sessionAfter s (fireCommands ls) t .session ≡ recordOf (record { marking = z; lines = numbered 0 ls; given = key (length ls) })
   -- and so does the run's own journal
-  pub journal : journalAfter s (fireCommands ls) ≡ record { marking = z; lines = numbered 0 ls }
+  pub journal : journalAfter s (fireCommands ls) ≡ record { marking = z; lines = numbered 0 ls; given = key (length ls) }
 
 pub record Demand3 (s : List ℕ) (cs : List (List ℕ)) (t : Tally) : Type 0 where
   -- the record is the journal in the record's form, and each answer was the journal's
@@ -146,4 +148,5 @@ pub record Demands : Type 0 where
   pub totals : (s : List ℕ) → clear (sheetChecks s) ≡ true → (cs : List (List ℕ)) → SessionTotals s cs
   -- document 02's requests, each by its file
   pub pages : (fs : List Firing) → Pages fs
+  pub serials : (s : List ℕ) → clear (sheetChecks s) ≡ true → (cs : List (List ℕ)) (t : Tally) → Serials s cs t
   pub blocks : (s : List ℕ) (r : Record) (t : Tally) (b words values : List ℕ) → Blocks s r t b words values

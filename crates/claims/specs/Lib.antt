@@ -3,4 +3,5 @@ pub mod Sessions
 pub mod Published
 pub mod Pages
 pub mod Blocks
+pub mod Serials
 pub mod Demands

@@ -1,5 +1,6 @@
 -- What "firing and taking back do what the published definition does" means (demand 2), as statements about `commandOf`:
--- chapter 3 of document 004 (crate published), under document 01's reading. Statements only; proofs/ proves each.
+-- chapter 3 of document 004 (crate published), under document 01's reading, but for the key that a firing gets (02, T-03).
+-- Statements only; proofs/ proves each.
 --
 -- M and H are the marking and the history that a record holds, place by place and transition by transition; ≺ is what
 -- Definitions 10 and 12 keep over the session's commands. Two sets are the same where each has what the other has.
@@ -7,17 +8,17 @@ use mathlib.Core.Path.{_≡_}
 use mathlib.Core.Logic.{_⊎_}
 use mathlib.Core.Bool.{true}
 use mathlib.Core.List.{List, [], _∷_, _++_}
-use Prim.Native.Nat.{ℕ}
+use Prim.Native.Nat.{ℕ, suc, _<_}
 use lib.Dec.{eqb}
 use Rattle.causal.specs.Lists.{Mem}
 use Rattle.net.specs.Firing.{inSet}
 use Rattle.net.specs.Checks.{clear}
-use Rattle.net.specs.Journal.{LiveLine, kindOf, numberOf, without, transitionNamed, readChecks, spaceChecks, begin}
+use Rattle.net.specs.Journal.{LiveLine, key, kindOf, numberOf, highestLive, lastGiven, without, transitionNamed, readChecks, spaceChecks, begin}
 use Rattle.net.specs.declared.Transition.{Transition}
 use Rattle.published.specs.Sets.{Iff, Item, Max}
 use Rattle.published.specs.Nets.{Definition2, WellFormed}
 use Rattle.published.specs.States.{Marks, Somewhere, IsMarking, EachInOnePlace, Keys}
-use Rattle.published.specs.Forward.{Enabled, leaves, firedMarks, firedKeys}
+use Rattle.published.specs.Forward.{Enabled, leaves, firedMarks, keysWith, keysAndZero, firedKeys}
 use Rattle.published.specs.Backtracking.{BacktrackEnabled, leavesBack, reversedMarks, reversedKeys}
 use Rattle.published.specs.Causal.{Order, noOrder, firedOrder, CausalEnabled, reversedOrder}
 use Rattle.published.specs.Sheets.{petriNet, marksOf, historyOf, orderAfter, orderOfLines, laterWithCommon}
@@ -28,6 +29,7 @@ use Rattle.tally.specs.declared.Tally.{Tally}
 use Rattle.session.specs.declared.Record.{Record}
 use Rattle.session.specs.Records.{heldIn, soundFor}
 use Rattle.session.specs.Commands.{freshOf, commandOf}
+use Rattle.session.specs.Runs.{Answered}
 use Rattle.session.specs.declared.Answer.the-variants.{Fired, Undone}
 use Rattle.claims.specs.Sessions.{sessionAfter}
 
@@ -38,6 +40,18 @@ marksIn s r = marksOf (netOf s) (heldIn s r .marking)
 
 abbrev pub historyIn : List ℕ → Record → Keys
 historyIn s r = historyOf (heldIn s r)
+
+-- the highest key ever given (02, T-03)
+abbrev pub givenIn : List ℕ → Record → ℕ
+givenIn s r = lastGiven (heldIn s r) .0
+
+-- the answer to a firing of key k
+abbrev pub firedAs : ℕ → Answered
+firedAs k = record { answer = Fired; key = key k }
+
+-- {0} and the keys that were given in a session's answers
+abbrev pub answeredAndZero : List Answered → ℕ → Type 0
+answeredAndZero rs k = (k ≡ 0) ⊎ Mem (firedAs k) rs
 
 -- ≺ after the commands, from the empty relation
 abbrev pub orderIn : List ℕ → List (List ℕ) → Order
@@ -108,10 +122,21 @@ pub record RecordAsPublished (s : List ℕ) (r : Record) (R : Order) : Type 0 wh
   -- ≺ is document 01's dependence: of higher key, with a common moved base
   pub order : (u : Transition) (i : ℕ) (v : Transition) (k : ℕ) → Iff (R u i v k) (laterWithCommon (heldIn s r) u i v k)
 
--- A firing gives the history of Definition 5. (T-03 changes this claim alone.)
-abbrev pub RecordKeysAsPublished : List ℕ → Record → Type 0
-RecordKeysAsPublished s r = (t : Tally) (c : List ℕ) → commandOf s r t c .outcome .answer ≡ Fired
-    → (u : Transition) (k : ℕ) → Iff (historyIn s (recordAfter s r t c) u k) (firedKeys (petriNet (netOf s)) (historyIn s r) (transitionNamed c) u k)
+-- The keys of firings. Definition 5 gives one above the highest of the history; 02, T-03 gives one above the highest that was
+-- ever given.
+pub record RecordKeysAsPublished (s : List ℕ) (r : Record) : Type 0 where
+  -- a firing gives its transition one more key, one above the highest given, and changes no other; the answer has it
+  pub fired : (t : Tally) (c : List ℕ) → commandOf s r t c .outcome .answer ≡ Fired
+      → (u : Transition) (k : ℕ) → Iff (historyIn s (recordAfter s r t c) u k) (keysWith (historyIn s r) (transitionNamed c) (suc (givenIn s r)) u k)
+  pub answered : (t : Tally) (c : List ℕ) → commandOf s r t c .outcome .answer ≡ Fired → commandOf s r t c .outcome .key ≡ key (suc (givenIn s r))
+  -- the new key is above every key of the history
+  pub above : (v : Transition) (k : ℕ) → historyIn s r v k → k < suc (givenIn s r)
+  -- Definition 5 looks at the highest live key, 0 where none is live; a firing gives its history exactly where no higher key
+  -- was given
+  pub highest : Max (keysAndZero (petriNet (netOf s)) (historyIn s r)) (highestLive (heldIn s r .lines) .0)
+  pub definition5 : (t : Tally) (c : List ℕ) → commandOf s r t c .outcome .answer ≡ Fired → Iff
+      (givenIn s r ≡ highestLive (heldIn s r .lines) .0)
+      ((u : Transition) (k : ℕ) → Iff (historyIn s (recordAfter s r t c) u k) (firedKeys (petriNet (netOf s)) (historyIn s r) (transitionNamed c) u k))
 
 -- ---- All of it, of every accepted sheet: its net is one of Definition 2 and well-formed (Definition 3), with the chapter's cases
 -- at each place; a fresh record holds the chapter's initial state; and, for a well-formed net, every record that a session
@@ -129,6 +154,9 @@ pub record FollowsPublished (s : List ℕ) : Type 0 where
   pub sound : WellFormed (petriNet (netOf s)) → (r : Record) → soundFor s r ≡ true → RecordAsPublished s r (orderOfLines (netOf s) (heldIn s r .lines))
   pub keys : (cs : List (List ℕ)) (t : Tally) → RecordKeysAsPublished s (sessionAfter s cs t .session)
   pub soundKeys : (r : Record) → soundFor s r ≡ true → RecordKeysAsPublished s r
+  -- the highest given is the highest of all keys in a session's answers, 0 where there are none; of a record that is handed in
+  -- it is the number in it
+  pub given : (cs : List (List ℕ)) (t : Tally) → Max (answeredAndZero (sessionAfter s cs t .answers)) (givenIn s (sessionAfter s cs t .session))
 
 abbrev pub Demand2Published : Type 0
 Demand2Published = (s : List ℕ) → clear (sheetChecks s) ≡ true → FollowsPublished s

@@ -4,6 +4,7 @@
 ghost use Prim.Native.Nat.{_≤_};
 use crate::random::below;
 use crate::random::mixed;
+use oracle::given;
 use oracle::highest;
 use oracle::reader::count;
 
@@ -44,12 +45,20 @@ fn key_from(s: &[u64], first: usize, free: bool) -> u64 {
     highest(s)
 }
 
-// A key for kind 3. Of 8: one is any number, one the highest key, three any other live key, three another that may be
+// Any number: of 2, one is below 300, one a key that was given, taken back or not, or 0, or one of the next two.
+fn any_key(s: &[u64], x: u64) -> u64 {
+    if x % 2 == 0 {
+        return x / 2 % 300;
+    }
+    below(x / 2, given(s) % 65536 + 3)
+}
+
+// A key for kind 3. Of 8: one is any number, one the highest live key, three any other live key, three another that may be
 // taken back.
 fn some_key(s: &[u64], x: u64) -> u64 {
     let y = x / 8;
     if x % 8 == 0 {
-        return y % 300;
+        return any_key(s, y);
     }
     if x % 8 == 1 {
         return highest(s);

@@ -8,16 +8,16 @@ use lib.ListN.{length}
 use Rattle.causal.specs.Reorderings.{Reordering}
 use Rattle.net.specs.Net.{Marking, Net}
 use Rattle.net.specs.Firing.{inSet}
-use Rattle.net.specs.Journal.{LiveLine, Journal, begin, act, play, answers}
+use Rattle.net.specs.Journal.{LiveLine, Journal, key, begin, act, play, answers}
 use Rattle.net.specs.History.{sound}
 use Rattle.net.specs.Claims.{fireCommands, numbered, allFired, Totals}
 
 -- ---- The forward run
 
 -- The lines' transitions, given as commands to a journal of their own, are each answered `fired`, each moves the bases
--- on its line, and the run ends in exactly the marking z.
+-- on its line, and the run ends in exactly the marking z; its keys are its own, from 1 up (02, T-03).
 pub record Forward (net : Net) (ls : List LiveLine) (z : Marking) : Type 0 where
-  pub journal : play net (fireCommands ls) (begin net) ≡ record { marking = z; lines = numbered 0 ls }
+  pub journal : play net (fireCommands ls) (begin net) ≡ record { marking = z; lines = numbered 0 ls; given = key (length ls) }
   pub answer : answers net (fireCommands ls) (begin net) ≡ allFired 0 ls
 
 -- Demand 3 on the journal: the lines that are left run forward to the session's marking, in their own order and in

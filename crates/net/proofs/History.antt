@@ -4,7 +4,7 @@ use mathlib.Core.Path.{_≡_, refl}
 use mathlib.Core.Logic.{_⊎_, inl, inr}
 use mathlib.Core.Bool.{Bool, true, _&&_, Bool·beq}
 use mathlib.Core.List.{List, [], _∷_}
-use Prim.Native.Nat.{ℕ, _<_, _≤_}
+use Prim.Native.Nat.{_<_}
 use native.Mathlib.Omega.{arith}
 use lib.Dec.{eqb, ltb, leb}
 use lib.ListN.{length}
@@ -19,7 +19,7 @@ use Rattle.net.specs.Rules.{netRule}
 use Rattle.net.specs.Firing.{moved, fire, Fires}
 use Rattle.net.specs.Checks.{clear}
 use Rattle.net.specs.Journal.{LiveLine, Journal, highestLive, enableChecks, act, play, begin}
-use Rattle.net.specs.History.{sameMarking, accepts, replays, keysInOrder, linesInForm, sound}
+use Rattle.net.specs.History.{sameMarking, accepts, replays, keysInOrder, linesInForm, givenInForm, sound}
 use Rattle.net.proofs.Claimed.{StaysSound, JournalSound}
 use Rattle.net.proofs.Tests.{and-l, and-r, and-i, all-e, all-i, beq-e, beq-i, same-e, same-i}
 use Rattle.net.proofs.Bonds.{bond-eq, eq-bond}
@@ -75,13 +75,13 @@ module _ (net : Net) where
 
 -- ---- the keys
 
-abbrev keyBelow : LiveLine → LiveLine → Bool
+abbrev pub keyBelow : LiveLine → LiveLine → Bool
 keyBelow l k = ltb (l .key .0) (k .key .0)
 
 abbrev keyInRange : LiveLine → Bool
 keyInRange l = ltb 0 (l .key .0) && leb (l .key .0) maxKey
 
-ascends-up : (ls : List LiveLine) → ascends keyBelow ls ≡ true → Up ls
+pub ascends-up : (ls : List LiveLine) → ascends keyBelow ls ≡ true → Up ls
 ascends-up [] h = tt
 ascends-up (l ∷ []) h = ((λ j m. absurd m), tt)
 ascends-up (l ∷ j ∷ ls) h =
@@ -98,24 +98,22 @@ up-ascends [] u = refl
 up-ascends (l ∷ []) u = refl
 up-ascends (l ∷ j ∷ ls) u = and-i (keyBelow l j) (ascends keyBelow (j ∷ ls)) (lt-ltb (l .key .0) (j .key .0) (u .0 j (inl refl))) (up-ascends (j ∷ ls) (u .1))
 
--- the highest of keys that are all within a bound
-highest-within : (ls : List LiveLine) (n : ℕ) → ((l : LiveLine) → Mem l ls → l .key .0 ≤ n) → highestLive ls .0 ≤ n
-highest-within [] n h = omega arith
-highest-within (l ∷ ls) n h = let a = h l (inl refl) in let b = highest-within ls n (λ j m. h j (inr m)) in omega arith
-
 -- ---- the test and the invariant
 
 module _ (net : Net) where
   pub sound-held : (j : Journal) → sound net j ≡ true → Held net j
   sound-held j h =
-      let form : linesInForm (j .lines) ≡ true = and-l (linesInForm (j .lines)) _ h in
+      let lines : (linesInForm (j .lines) && replays net (net .start) (j .lines) (j .marking)) ≡ true = and-l _ (givenInForm j) h in
+      let form : linesInForm (j .lines) ≡ true = and-l (linesInForm (j .lines)) _ lines in
       let keys : keysInOrder (j .lines) ≡ true = and-r (leb (length (j .lines)) maxLive) _ form in
       let each = all-e keyInRange (j .lines) (and-r (ascends keyBelow (j .lines)) _ keys) in
+      let given : givenInForm j ≡ true = and-r (linesInForm (j .lines) && replays net (net .start) (j .lines) (j .marking)) _ h in
       record {
-        run = replays-run net (j .lines) (net .start) (j .marking) (and-r (linesInForm (j .lines)) _ h);
+        run = replays-run net (j .lines) (net .start) (j .marking) (and-r (linesInForm (j .lines)) _ lines);
         up = ascends-up (j .lines) (and-l _ _ keys);
         few = leb-true (length (j .lines)) maxLive (and-l _ _ form);
-        low = highest-within (j .lines) maxKey (λ l m. leb-true (l .key .0) maxKey (and-r (ltb 0 (l .key .0)) _ (each l m)));
+        top = leb-true (highestLive (j .lines) .0) (j .given .0) (and-l _ _ given);
+        low = leb-true (j .given .0) maxKey (and-r (leb (highestLive (j .lines) .0) (j .given .0)) _ given);
         above = λ l m. ltb-true 0 (l .key .0) (and-l _ _ (each l m));
       }
 
@@ -125,8 +123,11 @@ module _ (net : Net) where
         le-leb (length (j .lines)) maxLive (H .few),
         up-ascends (j .lines) (H .up),
         all-i keyInRange (j .lines) (λ l m. and-i (ltb 0 (l .key .0)) (leb (l .key .0) maxKey) (lt-ltb 0 (l .key .0) (H .above l m))
-            (le-leb (l .key .0) maxKey (let a = mem-highest (j .lines) l m in let b = H .low in omega arith))),
-      ) (run-replays net (j .lines) (net .start) (j .marking) (H .run))
+            (le-leb (l .key .0) maxKey (let a = mem-highest (j .lines) l m in let b = H .top in let c = H .low in omega arith))),
+        le-leb (highestLive (j .lines) .0) (j .given .0) (H .top),
+        le-leb (j .given .0) maxKey (H .low),
+        run-replays net (j .lines) (net .start) (j .marking) (H .run),
+      )
 
 module _ (net : Net) (ok : netRule net ≡ true) where
   pub stays-sound : StaysSound net

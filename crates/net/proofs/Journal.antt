@@ -57,7 +57,8 @@ pub record Held (net : Net) (j : Journal) : Type 0 where
   pub run : Run (Fires net) (net .start) (j .lines) (j .marking)
   pub up : Up (j .lines)
   pub few : length (j .lines) ≤ maxLive
-  pub low : highestLive (j .lines) .0 ≤ maxKey
+  pub top : highestLive (j .lines) .0 ≤ j .given .0
+  pub low : j .given .0 ≤ maxKey
   pub above : (l : LiveLine) → Mem l (j .lines) → 0 < l .key .0
 
 module _ (net : Net) (ok : netRule net ≡ true) where
@@ -69,11 +70,13 @@ module _ (net : Net) (ok : netRule net ≡ true) where
       let F = enabled-fires net (j .marking) t (and-l _ _ both) in
       let few : length (j .lines) < maxLive = leb-false maxLive (length (j .lines)) (clear-off (fireChecks net j t) e 17) in
       let low : lastGiven j .0 < maxKey = leb-false maxKey (lastGiven j .0) (clear-off (fireChecks net j t) e 18) in
+      let top = H .top in
       record {
         run = run-join (Fires net) (j .lines) (l ∷ []) (net .start) (j .marking) z (H .run) (z, F, refl);
         up = up-snoc (j .lines) l (omega arith) (H .up);
         few = rw length-append (omega arith);
-        low = rw (highest-snoc (j .lines) l (omega arith)) low;
+        top = rw (highest-snoc (j .lines) l (omega arith)) (omega arith);
+        low = low;
         above = λ k h. pos k (mem-snoc (j .lines) l k h);
       }
     where
@@ -88,12 +91,12 @@ module _ (net : Net) (ok : netRule net ≡ true) where
       gone (lineOf k (j .lines)) xs ys q r (clear-off (undoChecks j k) e 20)
     where
       gone : (l : LiveLine) (xs ys : List LiveLine) → j .lines ≡ xs ++ l ∷ ys → l .key .0 ≡ k .0 → builtOn (j .lines) l ≡ false
-          → Held net (record { marking = undo (net .bases) (arcsOf net (l .transition)) (l .moved) (j .marking); lines = without k (j .lines) })
+          → Held net (record { marking = undo (net .bases) (arcsOf net (l .transition)) (l .moved) (j .marking); lines = without k (j .lines); given = j .given })
       gone l xs ys q r d =
           let u : Up (xs ++ l ∷ ys) = rw q at (H .up) in
           let same : without k (j .lines) ≡ xs ++ ys = rw q (without-split k l xs ys r u) in
           let few : length (xs ++ l ∷ ys) ≤ maxLive = rw q at (H .few) in
-          let low : highestLive (xs ++ l ∷ ys) .0 ≤ maxKey = rw q at (H .low) in
+          let top : highestLive (xs ++ l ∷ ys) .0 ≤ j .given .0 = rw q at (H .top) in
           let lk = length-skip l xs ys in
           let hk = highest-skip l xs ys in
           rw same (record {
@@ -101,7 +104,8 @@ module _ (net : Net) (ok : netRule net ≡ true) where
                 (start-good net ok) (rw q at (H .run)) (independent-later l ys (up-after l xs ys u) (builtOn-after l xs ys (rw q at d)));
             up = up-skip l xs ys u;
             few = omega arith;
-            low = omega arith;
+            top = omega arith;
+            low = H .low;
             above = λ i h. H .above i (rw q (mem-skip l xs ys i h));
           })
 
@@ -122,7 +126,7 @@ module _ (net : Net) (ok : netRule net ≡ true) where
   play-held (c ∷ cs) j H = play-held cs (act net j c .journal) (act-held j c H)
 
   pub begin-held : Held net (begin net)
-  begin-held = record { run = refl; up = tt; few = omega arith; low = omega arith; above = λ l h. absurd h }
+  begin-held = record { run = refl; up = tt; few = omega arith; top = omega arith; low = omega arith; above = λ l h. absurd h }
 
   pub played : (cs : List (List ℕ)) → Held net (play net cs (begin net))
   played cs = play-held cs (begin net) begin-held

@@ -19,3 +19,4 @@ pub mod Totals
 pub mod Pairs
 pub mod Cases
 pub mod Claims
+pub mod Once

@@ -56,6 +56,7 @@ pub record Case : Type 0 where
   pub command : List ℕ
   pub answer : Answer
   pub lines : List LiveLine
+  pub given : Key
   pub marking : Marking
 
 abbrev line : ℕ → ℕ → List Bool → LiveLine
@@ -80,13 +81,13 @@ afterM2 = marking (2 ∷ 0 ∷ 2 ∷ 2 ∷ []) (bond 0 2 ∷ bond 2 3 ∷ [])
 
 -- a command on sheet B's start that is refused
 abbrev turnedAway : List ℕ → ℕ → Case
-turnedAway c n = record { before = []; command = c; answer = refused n; lines = []; marking = atStart }
+turnedAway c n = record { before = []; command = c; answer = refused n; lines = []; given = key 0; marking = atStart }
 
 abbrev m1 : Case
-m1 = record { before = []; command = fireOf 0; answer = fired (key 1); lines = line 0 1 carried ∷ []; marking = afterM1 }
+m1 = record { before = []; command = fireOf 0; answer = fired (key 1); lines = line 0 1 carried ∷ []; given = key 1; marking = afterM1 }
 
 abbrev m2 : Case
-m2 = record { before = fireOf 0 ∷ []; command = fireOf 1; answer = fired (key 2); lines = line 0 1 carried ∷ line 1 2 carried ∷ []; marking = afterM2 }
+m2 = record { before = fireOf 0 ∷ []; command = fireOf 1; answer = fired (key 2); lines = line 0 1 carried ∷ line 1 2 carried ∷ []; given = key 2; marking = afterM2 }
 
 abbrev m3 : Case
 m3 = record {
@@ -94,6 +95,7 @@ m3 = record {
   command = undoOf 1;
   answer = refused 20;
   lines = line 0 1 carried ∷ line 1 2 carried ∷ [];
+  given = key 2;
   marking = afterM2;
 }
 
@@ -103,6 +105,7 @@ m4 = record {
   command = fireOf 2;
   answer = fired (key 3);
   lines = line 0 1 carried ∷ line 1 2 carried ∷ line 2 3 alone ∷ [];
+  given = key 3;
   marking = afterM2;
 }
 
@@ -112,6 +115,7 @@ m5 = record {
   command = undoOf 2;
   answer = undone (key 2);
   lines = line 0 1 carried ∷ line 2 3 alone ∷ [];
+  given = key 3;
   marking = afterM1;
 }
 
@@ -121,6 +125,7 @@ m6 = record {
   command = undoOf 1;
   answer = undone (key 1);
   lines = line 2 3 alone ∷ [];
+  given = key 3;
   marking = atStart;
 }
 
@@ -141,4 +146,4 @@ abbrev pub AllHold : List Case → Type 0
 AllHold [] = Unit {0}
 AllHold (m ∷ ms) =
     (act netB (play netB (m .before) (begin netB)) (m .command)
-    ≡ record { journal = record { marking = m .marking; lines = m .lines }; answer = m .answer }) × AllHold ms
+    ≡ record { journal = record { marking = m .marking; lines = m .lines; given = m .given }; answer = m .answer }) × AllHold ms

@@ -1,14 +1,15 @@
 -- What claims on a session are written in: the forward run of a list of lines, and document 01's totals.
 -- Definitions only.
 use mathlib.Core.Path.{_≡_}
-use mathlib.Core.Bool.{not}
+use mathlib.Core.Bool.{Bool, true, not, _&&_}
 use mathlib.Core.List.{List, [], _∷_, map}
 use Prim.Native.Nat.{ℕ, suc, _+_, _/_, _%_}
+use lib.Dec.{ltb}
 use lib.ListN.{length}
 use Rattle.net.specs.Tests.{count}
 use Rattle.net.specs.Net.{Arcs, Net, hasBond, arcsOf}
 use Rattle.net.specs.Marking.{Good}
-use Rattle.net.specs.Journal.{LiveLine, Journal, Answer, fired, key}
+use Rattle.net.specs.Journal.{LiveLine, Journal, Answer, fired, undone, refused, key}
 use Rattle.net.specs.declared.Bond.{Bond}
 use Rattle.net.specs.declared.Transition.{Transition}
 
@@ -30,6 +31,23 @@ numbered k (l ∷ ls) = record { transition = l .transition; key = key (suc k); 
 abbrev pub allFired : ℕ → List LiveLine → List Answer
 allFired k [] = []
 allFired k (l ∷ ls) = fired (key (suc k)) ∷ allFired (suc k) ls
+
+-- ---- Serials (02, T-03)
+
+-- the keys of the answers `fired`, in their order
+abbrev pub keyFirst : Answer → List ℕ → List ℕ
+keyFirst (fired k) ks = k .0 ∷ ks
+keyFirst (undone k) ks = ks
+keyFirst (refused n) ks = ks
+
+abbrev pub keysFired : List Answer → List ℕ
+keysFired [] = []
+keysFired (a ∷ rest) = keyFirst a (keysFired rest)
+
+-- strictly ascending, the first above k
+abbrev pub rises : ℕ → List ℕ → Bool
+rises k [] = true
+rises k (n ∷ ns) = ltb k n && rises n ns
 
 -- ---- The totals (01, firing and taking back, the last paragraph)
 

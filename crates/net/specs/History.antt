@@ -10,7 +10,7 @@ use Rattle.net.specs.Sorted.{ascends}
 use Rattle.net.specs.Net.{Marking, Net, sameBond, arcsOf}
 use Rattle.net.specs.Firing.{moved, fire}
 use Rattle.net.specs.Checks.{clear}
-use Rattle.net.specs.Journal.{LiveLine, Journal, enableChecks}
+use Rattle.net.specs.Journal.{LiveLine, Journal, highestLive, enableChecks}
 
 abbrev pub sameMarking : Marking → Marking → Bool
 sameMarking s z = sameList eqb (s .places) (z .places) && sameList sameBond (s .bonds) (z .bonds)
@@ -33,5 +33,9 @@ keysInOrder ls = ascends (λ (l k : LiveLine). ltb (l .key .0) (k .key .0)) ls
 abbrev pub linesInForm : List LiveLine → Bool
 linesInForm ls = leb (length ls) maxLive && keysInOrder ls
 
+-- The highest key given is at least as high as every live one (02, T-03), and a key; with nothing live it may be any.
+abbrev pub givenInForm : Journal → Bool
+givenInForm j = leb (highestLive (j .lines) .0) (j .given .0) && leb (j .given .0) maxKey
+
 abbrev pub sound : Net → Journal → Bool
-sound net j = linesInForm (j .lines) && replays net (net .start) (j .lines) (j .marking)
+sound net j = (linesInForm (j .lines) && replays net (net .start) (j .lines) (j .marking)) && givenInForm j

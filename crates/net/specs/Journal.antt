@@ -18,9 +18,11 @@ use Rattle.net.specs.declared.Key.{Key}
 abbrev pub LiveLine : Type 0
 LiveLine = Line Transition Key (List Bool)
 
+-- The highest key that was ever given goes with it (02, T-03).
 pub record Journal : Type 0 where
   pub marking : Marking
   pub lines : List LiveLine
+  pub given : Key
 
 -- `fired` and `undone` with the key; `refused` with the refusal's number.
 pub data Answer : Type 0 where
@@ -42,9 +44,9 @@ key n = record { 0 = n }
 abbrev pub sameKey : Key → Key → Bool
 sameKey k j = eqb (k .0) (j .0)
 
--- The journal begins with the start places, the start couplings and no line.
+-- The journal begins with the start places, the start couplings and no line; no key was given.
 abbrev pub begin : Net → Journal
-begin net = record { marking = net .start; lines = [] }
+begin net = record { marking = net .start; lines = []; given = key 0 }
 
 -- ---- A command's bytes (01, commands): a kind, then a two-byte number, low byte first. Nothing after them is read.
 
@@ -74,9 +76,9 @@ abbrev pub highestLive : List LiveLine → Key
 highestLive [] = key 0
 highestLive (l ∷ ls) = key (max (l .key .0) (highestLive ls .0))
 
--- The key that the next one is one above, and that refusal 18 looks at: the highest live one, 0 where none is live.
+-- The key that the next one is one above, and that refusal 18 looks at: the highest that was ever given (02, T-03).
 abbrev pub lastGiven : Journal → Key
-lastGiven j = highestLive (j .lines)
+lastGiven j = j .given
 
 abbrev pub isLive : Key → List LiveLine → Bool
 isLive k ls = any (λ (l : LiveLine). sameKey (l .key) k) ls
@@ -157,19 +159,20 @@ newKey j = key (suc (lastGiven j .0))
 abbrev pub newLine : Net → Journal → Transition → LiveLine
 newLine net j t = record { transition = t; key = newKey j; moved = moved (net .bases) (arcsOf net t) (j .marking) }
 
--- Kind 1: the firing, on the journal's places and bonds; its line goes at the end.
+-- Kind 1: the firing, on the journal's places and bonds; its line goes at the end, and its key is the highest given.
 abbrev pub fireReply : Net → Journal → Transition → Reply
 fireReply net j t = record {
-  journal = record { marking = fire (net .bases) (arcsOf net t) (j .marking); lines = j .lines ++ (newLine net j t ∷ []) };
+  journal = record { marking = fire (net .bases) (arcsOf net t) (j .marking); lines = j .lines ++ (newLine net j t ∷ []); given = newKey j };
   answer = fired (newKey j);
 }
 
--- Kinds 2 and 3: the taking back, with the moved bases on that line; the line goes, the others stay in order.
+-- Kinds 2 and 3: the taking back, with the moved bases on that line; the line goes, the others stay in order, and its key is
+-- not given again.
 abbrev pub undoReply : Net → Journal → Key → Reply
 undoReply net j k =
     let l : LiveLine = lineOf k (j .lines) in
     record {
-      journal = record { marking = undo (net .bases) (arcsOf net (l .transition)) (l .moved) (j .marking); lines = without k (j .lines) };
+      journal = record { marking = undo (net .bases) (arcsOf net (l .transition)) (l .moved) (j .marking); lines = without k (j .lines); given = j .given };
       answer = undone k;
     }
 

@@ -1,6 +1,7 @@
 // The history H and the dependence of occurrences (document 004, Definitions 8 to 10 and 12), in the 1,792 words after the
 // tables. An occurrence has one of 256 slots: its key (0 where the slot is free), its transition, four words with the slots
-// that depend on it, and the set of the bases that its firing moved.
+// that depend on it, and the set of the bases that its firing moved. The state's last word is the highest key ever given
+// (document 02, T-03).
 ghost use Prim.Native.Nat.{_≤_};
 use crate::reader::arc_bases;
 use crate::sets::get;
@@ -16,6 +17,8 @@ const TRANSITIONS: usize = 29376;
 const PAIRS: usize = 29632;
 
 const MOVED: usize = 30656;
+
+const GIVEN: usize = 30916;
 
 // No transition has this number.
 const ANY: usize = 64;
@@ -67,6 +70,15 @@ fn latest(s: &[u64], t: usize) -> u64 {
 // The highest key of all transitions; 0 where there is none.
 pub fn highest(s: &[u64]) -> u64 {
     latest(s, ANY)
+}
+
+// The highest key that was ever given, live or not; 0 where none was. The next one is above it.
+pub fn given(s: &[u64]) -> u64 {
+    get(s, GIVEN)
+}
+
+pub fn give(s: &mut [u64], key: u64) {
+    put(s, GIVEN, key);
 }
 
 // The slot of a key, the first free one for 0; 256 where there is none.
@@ -176,10 +188,17 @@ pub fn forget(s: &mut [u64], slot: usize) {
     }
 }
 
-// Another key for the occurrence of the highest: a record handed in may have any that is above the others. 0 raises none.
-pub fn raise(s: &mut [u64], key: u64) {
+// Another key for the occurrence of the highest, where there is one: a record handed in may have any that is above the others.
+fn raise_last(s: &mut [u64], key: u64) {
     let last = highest(s);
     if (last != 0) & (key != 0) {
         put(s, KEYS + slot_of(s, last) % 256, key);
     }
+}
+
+// The same, and the highest given is not below that key then, with nothing live too. 0 raises none.
+pub fn raise(s: &mut [u64], key: u64) {
+    raise_last(s, key);
+    let most = larger(given(s), key);
+    give(s, most);
 }

@@ -1,7 +1,8 @@
 // A second engine, written from document 004, chapter 3, Definitions 2 to 7 and 9 to 12, under document 01's reading. It
 // shares no code with the other crates: programs compare the two. It is proved safe and ending for any bytes; that it
-// answers rightly is what the comparison is about. Its state is one lent slice of 30,916 words: tables (module sets), the
-// history (module history), and a tally that is counted from the replies alone. The sheet has been accepted.
+// answers rightly is what the comparison is about. Its state is one lent slice of 30,917 words: tables (module sets), the
+// history (module history), a tally that is counted from the replies alone, and the highest key given, since no key is given
+// twice (document 02, T-03). The sheet has been accepted.
 mod arcs;
 mod con;
 mod forward;
@@ -18,6 +19,8 @@ use forward::lacking;
 use forward::used;
 pub use history::NO_KEY;
 use history::forget;
+use history::give;
+pub use history::given;
 pub use history::highest;
 pub use history::key_after;
 pub use history::key_at;
@@ -39,7 +42,7 @@ use sets::get;
 use sets::put;
 
 // Words of a state.
-pub const STATE: usize = 30916;
+pub const STATE: usize = 30917;
 
 const TALLY: usize = 30912;
 
@@ -67,11 +70,12 @@ pub fn tally_at(s: &[u64], word: u64) -> u64 {
     get(s, TALLY + (word % 3) as usize)
 }
 
-// The start of a sheet: M0, an empty history, and a tally with one number in each count.
+// The start of a sheet: M0, an empty history with no key given, and a tally with one number in each count.
 pub fn begin(sheet: &[u8], s: &mut [u64], tally: u64) {
     fill(s, 0, TALLY, 0);
     fill(s, TALLY, 3, tally);
     put(s, SIZE, 65 * count(sheet, 1) as u64);
+    give(s, 0);
     lay_start(s, sheet);
 }
 
@@ -82,7 +86,7 @@ pub fn hindered(sheet: &[u8], s: &mut [u64], t: usize) -> u64 {
     hindrance(s)
 }
 
-// Kind 1: 12, 13 to 16, 17, 18, then the firing by Definitions 5 and 10.
+// Kind 1: 12, 13 to 16, 17, 18, then the firing by Definitions 5 and 10, with a key above every one given before.
 fn fire(sheet: &[u8], s: &mut [u64], t: usize) -> u64 {
     if count(sheet, 3) <= t {
         return refused(12);
@@ -95,12 +99,13 @@ fn fire(sheet: &[u8], s: &mut [u64], t: usize) -> u64 {
     if slot == 256 {
         return refused(17);
     }
-    let last = highest(s);
+    let last = given(s);
     if 65535 <= last {
         return refused(18);
     }
     let bases = used(s);
     record(s, sheet, slot, t, last + 1, bases);
+    give(s, last + 1);
     execute(s);
     reply(FIRED, last + 1)
 }

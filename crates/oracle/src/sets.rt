@@ -1,7 +1,8 @@
 // Sets of at most 64 things as words, and words in a lent slice: past the end a read gives 0 and a store does nothing.
 // So no call has to be asked for an index within the slice. The slice is the second engine's whole state: seven tables of
-// 4,160 words, then the history (module history), the tally, and how many words of a table the sheet's places have. A table has 65 words for each of 64 places: row 0 is the set of bases there,
-// row 1 + b the set of bases that are bonded to b there.
+// 4,160 words, then the history (module history), the tally, how many words of a table the sheet's places have, and the highest
+// key given. A table has 65 words for each of 64 places: row 0 is the set of bases there, row 1 + b the set of bases that are
+// bonded to b there.
 
 // The marking M; the labels F(x, t) and F(t, x) of all places x; the marking that is being made; M(x) - eff(t).
 pub const MARKING: usize = 0;

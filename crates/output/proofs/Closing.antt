@@ -11,6 +11,7 @@ use Rattle.marking.specs.declared.Marking.{Marking}
 use Rattle.firings.specs.Search.{keysIn}
 use Rattle.firings.specs.declared.Firings.{Firings}
 use Rattle.firings.proofs.Search.{keys-of-lines}
+use Rattle.net.specs.declared.Key.{Key}
 use Rattle.sound.specs.Soundness.{journalIn}
 use Rattle.tally.specs.declared.Tally.{Tally}
 use Rattle.text.specs.Writes.{Wrote}
@@ -38,12 +39,12 @@ bonds-fit lo hi n = let a = bonds-upto lo hi n in let e = ap (λ (t : List ℕ).
 -- ---- The whole
 
 -- the four writers, one after the other, leave the closing lines
-pub closing-pieces : (b : List ℕ) {b₁ b₂ b₃ b₄ : List ℕ} (at : ℕ) {k₁ k₂ k₃ k₄ : ℕ} (n : ℕ) (m : Marking) (f : Firings) (t : Tally)
+pub closing-pieces : (b : List ℕ) {b₁ b₂ b₃ b₄ : List ℕ} (at : ℕ) {k₁ k₂ k₃ k₄ : ℕ} (n : ℕ) (m : Marking) (f : Firings) (k : Key) (t : Tally)
     → Wrote (placesLine (take n (m .places))) at b k₁ b₁ → Wrote (bondLines (bondsIn (m .lo) (m .hi) (m .count))) k₁ b₁ k₂ b₂ → Wrote (liveLine (keysIn (f .live) (f .keys))) k₂ b₂ k₃ b₃
     → Wrote (tallyLine (t .fired) (t .undone) (t .refused)) k₃ b₃ k₄ b₄
-    → Wrote (closingOf (journalIn n m f) t) at b k₄ b₄
+    → Wrote (closingOf (journalIn n m f k) t) at b k₄ b₄
 unfolding closingOf
-closing-pieces b at n m f t w₁ w₂ w₃ w₄ =
+closing-pieces b at n m f k t w₁ w₂ w₃ w₄ =
     let all = written-more (tallyLine (t .fired) (t .undone) (t .refused)) (written-more (liveLine (keysIn (f .live) (f .keys))) (written-more (bondLines (bondsIn (m .lo) (m .hi) (m .count))) (written-more (placesLine (take n (m .places))) (written-none b at) w₁) w₂) w₃) w₄ in
     let e = keys-of-lines n f in
     rw (← e) (written-pair all)

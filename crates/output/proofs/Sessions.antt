@@ -176,15 +176,15 @@ module _ (s b : List ℕ) (r : Record) (words₀ values₀ : List ℕ) (session 
   -- the two writers, one after the other, leave the session's text
   pub session-pieces : (buf : List ℕ) {buf₁ buf₂ : List ℕ} {k₁ k₂ : ℕ} (n : ℕ) → n ≡ basesOf s
       → Filled (linesUpto words values (howMany b)) buf k₁ buf₁
-      → Wrote (closingOf (journalIn n (session .marking) (session .firings)) tally) k₁ buf₁ k₂ buf₂
+      → Wrote (closingOf (journalIn n (session .marking) (session .firings) (session .given)) tally) k₁ buf₁ k₂ buf₂
       → Filled (sessionText (netOf s) (commandsIn b)) buf k₂ buf₂
   unfolding sessionText
   session-pieces buf n bases w₁ w₂ =
       let first = linesUpto words values (howMany b) in
-      let last = closingOf (journalIn n (session .marking) (session .firings)) tally in
+      let last = closingOf (journalIn n (session .marking) (session .firings) (session .given)) tally in
       let one : first ≡ answerLines 0 (replies s b (G .accepted)) = (λ i. linesUpto (given .words-are i) (given .values-are i) (howMany b)) ∙ lines-stored s b (G .accepted) words₀ values₀ (G .room) (G .space) in
       let two : last ≡ closingOf (journal s b (G .accepted)) (tallied (replies s b (G .accepted)) zeroTally) =
-      (λ i. closingOf (journalIn (bases i) (given .session-is i .marking) (given .session-is i .firings)) (given .tally-is i))
+      (λ i. closingOf (journalIn (bases i) (given .session-is i .marking) (given .session-is i .firings) (given .session-is i .given)) (given .tally-is i))
       ∙ λ i. closingOf (holds s b (G .accepted) i) (tally-is s b (G .accepted) i) in
       let all = written-more last (written-more first (written-none buf 0) (w₁ .0 ∙ sym (zero-add (length first)), w₁ .1)) w₂ in
       rw (← one, ← two) (all .count ∙ zero-add (length (first ++ last)), all .list)

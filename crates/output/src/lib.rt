@@ -121,7 +121,7 @@ fn put_live_keys(buf: &mut [u8], at: usize, keys: &[u16], n: usize) -> usize
 // The closing lines of what a record holds. `put_session` has a sound record and sees to the room.
 fn put_closing(buf: &mut [u8], at: usize, bases: usize, r: Record, t: Tally) -> usize
     requires { ⌜ (at + closingRoom ≤ length (now buf)) × (bases ≤ maxBases) × (r .marking .count ≤ maxBonds) × (r .firings .live ≤ maxLive) ⌝ }
-    ensures { λ x. ⌜ Wrote (closingOf (journalIn bases (r .marking) (r .firings)) t) at (now (buf .entry)) x (now (buf .exit)) ⌝ }
+    ensures { λ x. ⌜ Wrote (closingOf (journalIn bases (r .marking) (r .firings) (r .given)) t) at (now (buf .entry)) x (now (buf .exit)) ⌝ }
     ensures { λ x. ⌜ x ≤ at + closingRoom ⌝ }
 {
     let m = r.marking;

@@ -20,7 +20,7 @@ use Rattle.published.proofs.Enabling.{enabled-iff}
 use Rattle.published.proofs.Firing.{moved-out, fired-marks}
 use Rattle.published.proofs.Sessions.{good-now}
 use Rattle.published.proofs.Keys.{reversed-keys}
-use Rattle.published.proofs.FiredKeys.{fired-keys}
+use Rattle.published.proofs.FiredKeys.{fired-keys, highest-given}
 use Rattle.published.proofs.Order.{Agrees, fired-order, reversed-order, order-is}
 use Rattle.published.proofs.LineOrder.{lines-order}
 use Rattle.published.proofs.ByCases.{by-cases}
@@ -69,6 +69,7 @@ module _ (net : Net) (ok : netRule net ≡ true) where
     histories = λ _ j h. as-published j (sound-held net j h) (orderOfLines net (j .lines)) (lines-order net ok j (sound-held net j h));
     keys = λ cs. fired-keys net ok (play net cs (begin net)) (played net ok cs);
     historyKeys = λ j h. fired-keys net ok j (sound-held net j h);
+    given = highest-given net;
   }
 
 pub published-B : Published netB

@@ -9,13 +9,13 @@ use native.Mathlib.Omega.{arith}
 use lib.Dec.{eqb}
 use Rattle.causal.proofs.Tests.{both}
 use Rattle.net.specs.Checks.{clear}
-use Rattle.net.specs.Journal.{LiveLine, Journal, transition, key, begin, play, enableChecks, undoChecks}
-use Rattle.net.specs.Cases.{netB, fireOf}
+use Rattle.net.specs.Journal.{LiveLine, Journal, transition, key, begin, play, enableChecks, undoChecks, fireReply}
+use Rattle.net.specs.Cases.{netB, fireOf, undoOf}
 use Rattle.net.specs.declared.Transition.{Transition}
-use Rattle.published.specs.Sets.{base, minus, Max}
+use Rattle.published.specs.Sets.{Iff, base, minus, Max}
 use Rattle.published.specs.Nets.{PetriNet}
 use Rattle.published.specs.States.{Marks, Somewhere}
-use Rattle.published.specs.Forward.{Enabled, leaves, firedMarks}
+use Rattle.published.specs.Forward.{Enabled, leaves, firedMarks, firedKeys}
 use Rattle.published.specs.Backtracking.{BacktrackEnabled, leavesBack, reversedMarks}
 use Rattle.published.specs.Causal.{noOrder, CausalEnabled}
 use Rattle.published.specs.Sheets.{petriNet, marksOf, historyOf, orderAfter, orderOfLines}
@@ -98,8 +98,8 @@ leaves-M5 = shown firings .movesBack (key 2) refl 0 .0 refl
 pub last-M4 : BacktrackEnabled N (historyOf (after firings)) (transition 2)
 last-M4 = shown firings .last (transition 2) .0 (refl, refl)
 
--- ---- The same lines handed in with other keys, 5, 9 and 200: a sound history, in which transition 1's firing still depends on
--- transition 0's by Definition 10, and transition 1 is c-enabled
+-- ---- The same lines handed in with other keys, 5, 9 and 200, the highest given being 300: a sound history, in which transition
+-- 1's firing still depends on transition 0's by Definition 10, and transition 1 is c-enabled; a firing gets the key 301
 
 abbrev handed : Journal
 handed = record {
@@ -109,6 +109,7 @@ handed = record {
       ∷ record { transition = transition 1; key = key 9; moved = true ∷ false ∷ true ∷ true ∷ [] }
       ∷ record { transition = transition 2; key = key 200; moved = false ∷ true ∷ false ∷ false ∷ [] }
       ∷ [];
+  given = key 300;
 }
 
 shown-handed : JournalAsPublished netB handed (orderOfLines netB (handed .lines))
@@ -119,6 +120,23 @@ depends-handed = shown-handed .order (transition 0) 5 (transition 1) 9 .1 (_, _,
 
 pub causal-handed : CausalEnabled N (marksOf netB (handed .marking)) (historyOf handed) (orderOfLines netB (handed .lines)) (transition 1)
 causal-handed = shown-handed .causal (key 9) (transition 1) .0 (refl, refl) .0
+
+pub key-handed : historyOf (fireReply netB handed (transition 2) .journal) (transition 2) 301
+key-handed = published-B .historyKeys handed refl .fired (transition 2) (transition 2) 301 .1 (inr (refl, refl))
+
+-- ---- Keys (02, T-03): the first is Definition 5's; after a firing that was taken back the next is 2, where Definition 5 has 1
+
+pub key-M1 : firedKeys N (historyOf (begin netB)) (transition 0) (transition 0) 1
+key-M1 = published-B .keys [] .definition5 (transition 0) .0 refl (transition 0) 1 .0 (_, inl refl, refl, refl)
+
+abbrev takenBack : List (List ℕ)
+takenBack = fireOf 0 ∷ undoOf 1 ∷ []
+
+pub key-again : historyOf (fireReply netB (after takenBack) (transition 0) .journal) (transition 0) 2
+key-again = published-B .keys takenBack .fired (transition 0) (transition 0) 2 .1 (inr (refl, refl))
+
+pub not-definition5 : ((u : Transition) (k : ℕ) → Iff (historyOf (fireReply netB (after takenBack) (transition 0) .journal) u k) (firedKeys N (historyOf (after takenBack)) (transition 0) u k)) → ⊥
+not-definition5 f = let e : _≡_ {A = ℕ} 1 0 = published-B .keys takenBack .definition5 (transition 0) .1 f in omega arith
 
 -- ---- The reading of Definition 5: transition 2 takes base 1 from place 0 and puts it there. By the first of the chapter's
 -- cases alone, place 0 would lose it; taken out first and then put in, it is there.

@@ -14,8 +14,10 @@ use Rattle.net.specs.Net.{Marking, Net, arcsOf}
 use Rattle.net.specs.Rules.{netRule}
 use Rattle.net.specs.Firing.{fire, Fires}
 use Rattle.net.specs.Checks.{clear}
-use Rattle.net.specs.Journal.{LiveLine, Journal, highestLive, enableChecks}
-use Rattle.net.proofs.Keys.{Up}
+use Rattle.net.specs.Limits.{maxKey}
+use Rattle.net.specs.Journal.{LiveLine, Journal, key, highestLive, enableChecks}
+use Rattle.net.specs.declared.Key.{Key}
+use Rattle.net.proofs.Keys.{Up, mem-highest, highest-snoc}
 use Rattle.net.proofs.Journal.{Held}
 use Rattle.published.specs.Causal.{Order, noOrder, firedOrder}
 use Rattle.published.specs.Sheets.{petriNet, marksOf, historyOf, withLine, orderOver, orderOfLines}
@@ -28,10 +30,6 @@ up-left : (xs ys : List LiveLine) → Up (xs ++ ys) → Up xs
 up-left [] ys u = tt
 up-left (x ∷ xs) ys u = ((λ j m. u .0 j (mem-left xs ys j m)), up-left xs ys (u .1))
 
-highest-left : (xs ys : List LiveLine) → highestLive xs .0 ≤ highestLive (xs ++ ys) .0
-highest-left [] ys = omega arith
-highest-left (x ∷ xs) ys = let k = highest-left xs ys in omega arith
-
 -- a line's key is above those before it
 highest-below : (xs : List LiveLine) (l : LiveLine) (ys : List LiveLine) → 0 < l .key .0 → Up (xs ++ l ∷ ys) → highestLive xs .0 < l .key .0
 highest-below [] l ys p u = p
@@ -40,34 +38,38 @@ highest-below (x ∷ xs) l ys p u = let a = u .0 l (mem-mid l xs ys) in let b = 
 -- ---- the run
 
 module _ (net : Net) (ok : netRule net ≡ true) where
-  abbrev state : Marking → List LiveLine → Journal
-  state s ls = record { marking = s; lines = ls }
+  abbrev state : Marking → List LiveLine → Key → Journal
+  state s ls g = record { marking = s; lines = ls; given = g }
 
   fires-enabled : (s z : Marking) (l : LiveLine) → Fires net s (l .transition) (l .moved) z → clear (enableChecks net s (l .transition)) ≡ true
   fires-enabled s z l F = rw (lt-leb (length (net .transitions)) (l .transition .0) (F .listed), F .placed, F .present, F .absent, F .together)
 
-  held-left : (xs ys : List LiveLine) (y z : Marking) → Run (Fires net) (net .start) xs y → Held net (state z (xs ++ ys)) → Held net (state y xs)
-  held-left xs ys y z r H =
+  -- the lines that were run so far, with any key given that is high enough
+  held-left : (xs ys : List LiveLine) (y : Marking) (g : Key) → Run (Fires net) (net .start) xs y → highestLive xs .0 ≤ g .0 → g .0 ≤ maxKey
+      → (z : Marking) (n : Key) → Held net (state z (xs ++ ys) n) → Held net (state y xs g)
+  held-left xs ys y g r top low z n H =
       let a = length-append xs ys in
-      let b = highest-left xs ys in
       let few = H .few in
-      let low = H .low in
-      record { run = r; up = up-left xs ys (H .up); few = omega arith; low = omega arith; above = λ l m. H .above l (mem-left xs ys l m) }
+      record { run = r; up = up-left xs ys (H .up); few = omega arith; top = top; low = low; above = λ l m. H .above l (mem-left xs ys l m) }
 
-  over : (ys xs : List LiveLine) (y z : Marking) → Run (Fires net) (net .start) xs y → Run (Fires net) y ys z → Held net (state z (xs ++ ys))
-      → (R : Order) → Agrees (state y xs) R → Agrees (state z (xs ++ ys)) (orderOver net ys (state y xs) R)
-  over [] xs y z r q H R A = subst (λ (ls : List LiveLine). Agrees (state z ls) R) (sym (append-nil xs)) A
-  over (l ∷ ys) xs y z r (y₁, F, q) H R A =
+  over : (ys xs : List LiveLine) (y : Marking) (g : Key) → Run (Fires net) (net .start) xs y → highestLive xs .0 ≤ g .0 → g .0 ≤ maxKey
+      → (z : Marking) (n : Key) → Run (Fires net) y ys z → Held net (state z (xs ++ ys) n)
+      → (R : Order) → Agrees (state y xs g) R → Agrees (state z (xs ++ ys) n) (orderOver net ys (state y xs g) R)
+  over [] xs y g r top low z n q H R A = subst (λ (ls : List LiveLine). Agrees (state z ls n) R) (sym (append-nil xs)) A
+  over (l ∷ ys) xs y g r top low z n (y₁, F, q) H R A =
       let y₂ : Marking = fire (net .bases) (arcsOf net (l .transition)) y in
       let F₂ : Fires net y (l .transition) (l .moved) y₂ = subst (Fires net y (l .transition) (l .moved)) (F .gives) F in
       let r₂ : Run (Fires net) (net .start) (xs ++ (l ∷ [])) y₂ = run-join (Fires net) xs (l ∷ []) (net .start) y y₂ r (y₂, F₂, refl) in
       let q₂ : Run (Fires net) y₂ ys z = subst (λ (x : Marking). Run (Fires net) x ys z) (F .gives) q in
       let e : (xs ++ (l ∷ [])) ++ ys ≡ xs ++ l ∷ ys = append-assoc xs (l ∷ []) ys in
-      let H₂ : Held net (state z ((xs ++ (l ∷ [])) ++ ys)) = subst (λ (ls : List LiveLine). Held net (state z ls)) (sym e) H in
-      let R₂ : Order = firedOrder (petriNet net) (marksOf net y) (historyOf (withLine net (state y xs) l)) R (l .transition) in
-      let A₂ : Agrees (withLine net (state y xs) l) R₂ =
-      line-order net ok (state y xs) (held-left xs (l ∷ ys) y z r H) R A l (fires-enabled y y₁ l F) (F .moves-m) (highest-below xs l ys (H .above l (mem-mid l xs ys)) (H .up)) in
-      subst (λ (ls : List LiveLine). Agrees (state z ls) (orderOver net ys (withLine net (state y xs) l) R₂)) e (over ys (xs ++ (l ∷ [])) y₂ z r₂ q₂ H₂ R₂ A₂)
+      let H₂ : Held net (state z ((xs ++ (l ∷ [])) ++ ys) n) = subst (λ (ls : List LiveLine). Held net (state z ls n)) (sym e) H in
+      let R₂ : Order = firedOrder (petriNet net) (marksOf net y) (historyOf (withLine net (state y xs g) l)) R (l .transition) in
+      let high : highestLive xs .0 < l .key .0 = highest-below xs l ys (H .above l (mem-mid l xs ys)) (H .up) in
+      let top₂ : highestLive (xs ++ (l ∷ [])) .0 ≤ l .key .0 = rw (highest-snoc xs l (omega arith)) (omega arith) in
+      let low₂ : l .key .0 ≤ maxKey = (let a = mem-highest (xs ++ l ∷ ys) l (mem-mid l xs ys) in let b = H .top in let c = H .low in omega arith) in
+      let A₂ : Agrees (withLine net (state y xs g) l) R₂ = line-order net ok (state y xs g) (held-left xs (l ∷ ys) y g r top low z n H) R A l (fires-enabled y y₁ l F) (F .moves-m) high in
+      subst (λ (ls : List LiveLine). Agrees (state z ls n) (orderOver net ys (withLine net (state y xs g) l) R₂)) e (over ys (xs ++ (l ∷ [])) y₂ (l .key) r₂ top₂ low₂ z n q₂ H₂ R₂ A₂)
 
   pub lines-order : (j : Journal) → Held net j → Agrees j (orderOfLines net (j .lines))
-  lines-order j H = over (j .lines) [] (net .start) (j .marking) refl (H .run) H noOrder (λ u i t k. ((λ r. absurd r), λ (l, h, m, _, _, _, _, _, _, _). absurd m))
+  lines-order j H =
+      over (j .lines) [] (net .start) (key 0) refl (omega arith) (omega arith) (j .marking) (j .given) (H .run) H noOrder (λ u i t k. ((λ r. absurd r), λ (l, h, m, _, _, _, _, _, _, _). absurd m))

@@ -135,7 +135,7 @@ module _ (net : Net) (ok : netRule net ≡ true) (j : Journal) (H : Held net j) 
 
   pub fired-order : (R : Order) → Agrees j R → (t : Transition) → clear (enableChecks net (j .marking) t) ≡ true
       → Agrees (fireReply net j t .journal) (firedOrder (petriNet net) (marksOf net (j .marking)) (historyOf (fireReply net j t .journal)) R t)
-  fired-order R A t e = line-order R A (newLine net j t) e refl (omega arith)
+  fired-order R A t e = let top = H .top in line-order R A (newLine net j t) e refl (omega arith)
 
   -- ---- Definition 12
 

@@ -1,24 +1,24 @@
--- What is claimed: that document 01's firing and taking back, on every journal that a session can reach, are chapter 3's.
--- Statements only; proofs/ has a proof of each.
+-- What is claimed: that document 01's firing and taking back, on every journal that a session can reach, are chapter 3's, but
+-- for the key that a firing gets (02, T-03). Statements only; proofs/ has a proof of each.
 use mathlib.Core.Path.{_≡_}
 use mathlib.Core.Logic.{_⊎_}
 use mathlib.Core.Bool.{true}
 use mathlib.Core.List.{List}
-use Prim.Native.Nat.{ℕ}
+use Prim.Native.Nat.{ℕ, suc, _<_}
 use Rattle.net.specs.Net.{Marking, Net}
 use Rattle.net.specs.Firing.{inSet}
 use Rattle.net.specs.Checks.{clear}
-use Rattle.net.specs.Journal.{Journal, highestLive, lineOf, enableChecks, undoChecks, newLine, fireReply, undoReply, begin, play}
+use Rattle.net.specs.Journal.{Journal, highestLive, lastGiven, lineOf, enableChecks, undoChecks, newLine, fireReply, undoReply, begin, play, answers}
 use Rattle.net.specs.History.{sound}
 use Rattle.net.specs.declared.Key.{Key}
 use Rattle.net.specs.declared.Transition.{Transition}
 use Rattle.published.specs.Sets.{Iff, Item, Items, union, minus, Max}
 use Rattle.published.specs.Nets.{PetriNet, Definition2, Incoming, Outgoing, WellFormed}
 use Rattle.published.specs.States.{Marks, Somewhere, IsMarking, EachInOnePlace, Keys, noKeys}
-use Rattle.published.specs.Forward.{Enabled, leaves, comes, firedMarks, firedKeys}
+use Rattle.published.specs.Forward.{Enabled, leaves, comes, firedMarks, keysWith, keysAndZero, firedKeys}
 use Rattle.published.specs.Backtracking.{BacktrackEnabled, leavesBack, comesBack, reversedMarks, reversedKeys}
 use Rattle.published.specs.Causal.{Order, noOrder, firedOrder, CausalEnabled, reversedOrder}
-use Rattle.published.specs.Sheets.{petriNet, marksOf, historyOf, orderAfter, orderOfLines, laterWithCommon}
+use Rattle.published.specs.Sheets.{petriNet, marksOf, historyOf, givenAndZero, orderAfter, orderOfLines, laterWithCommon}
 
 -- ---- The reading of Definitions 5 and 7. Where a place is not both incoming and outgoing, the one formula is the chapter's
 -- three cases. Where it is both, two of them speak of it, and it is the one that takes out and then the one that puts in.
@@ -109,9 +109,19 @@ pub record JournalAsPublished (net : Net) (j : Journal) (R : Order) : Type 0 whe
       → (u : Transition) (i : ℕ) (v : Transition) (n : ℕ)
       → Iff (laterWithCommon (undoReply net j k .journal) u i v n) (reversedOrder (historyOf j) R (lineOf k (j .lines) .transition) u i v n)
 
--- A firing gives the history of Definition 5. (T-03 changes this claim alone.)
-abbrev pub JournalKeysAsPublished : Net → Journal → Type 0
-JournalKeysAsPublished net j = (t u : Transition) (k : ℕ) → Iff (historyOf (fireReply net j t .journal) u k) (firedKeys (petriNet net) (historyOf j) t u k)
+-- The keys of firings. Definition 5 gives one above the highest of the history; 02, T-03 gives one above the highest that was
+-- ever given.
+pub record JournalKeysAsPublished (net : Net) (j : Journal) : Type 0 where
+  -- a firing gives its transition one more key, one above the highest given, and changes no other
+  pub fired : (t u : Transition) (k : ℕ) → Iff (historyOf (fireReply net j t .journal) u k) (keysWith (historyOf j) t (suc (lastGiven j .0)) u k)
+  -- the new key is above every key of the history
+  pub above : (t : Transition) (k : ℕ) → historyOf j t k → k < suc (lastGiven j .0)
+  -- Definition 5 looks at the highest live key, 0 where none is live; a firing gives its history exactly where no higher key
+  -- was given
+  pub highest : Max (keysAndZero (petriNet net) (historyOf j)) (highestLive (j .lines) .0)
+  pub definition5 : (t : Transition) → Iff
+      (lastGiven j .0 ≡ highestLive (j .lines) .0)
+      ((u : Transition) (k : ℕ) → Iff (historyOf (fireReply net j t .journal) u k) (firedKeys (petriNet net) (historyOf j) t u k))
 
 -- ---- All of it, of a net and every list of commands on it. ≺ is what Definitions 10 and 12 keep over the commands; of a sound
 -- history that is handed in, whose past is not known, what Definition 10 gives on the forward run of its lines. `states` is
@@ -127,3 +137,6 @@ pub record Published (net : Net) : Type 0 where
   pub histories : WellFormed (petriNet net) → (j : Journal) → sound net j ≡ true → JournalAsPublished net j (orderOfLines net (j .lines))
   pub keys : (cs : List (List ℕ)) → JournalKeysAsPublished net (play net cs (begin net))
   pub historyKeys : (j : Journal) → sound net j ≡ true → JournalKeysAsPublished net j
+  -- the highest given is the highest of all keys in the answers, 0 where there are none; of a history that is handed in it is
+  -- the number in it
+  pub given : (cs : List (List ℕ)) → Max (givenAndZero (answers net cs (begin net))) (lastGiven (play net cs (begin net)) .0)

@@ -39,6 +39,10 @@ comes N M t x i = (a : ℕ) × (y : ℕ) × N .puts t x (base a) × N .takes y t
 abbrev pub firedMarks : PetriNet → Marks → Transition → Marks
 firedMarks N M t x = union (minus (M x) (leaves N M t x)) (union (N .puts t x) (comes N M t x))
 
+-- H′ where t gets the key n.
+abbrev pub keysWith : Keys → Transition → ℕ → Keys
+keysWith H t n u k = H u k ⊎ ((u ≡ t) × (k ≡ n))
+
 -- {0} and the keys of all transitions
 abbrev pub keysAndZero : PetriNet → Keys → ℕ → Type 0
 keysAndZero N H k = (k ≡ 0) ⊎ ((t : Transition) × N .isTransition t × H t k)

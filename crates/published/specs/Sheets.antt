@@ -1,6 +1,7 @@
 -- The net that a sheet describes as a net of Definition 2, its markings and the journal's lines as markings and histories,
 -- and the relation ≺ that Definitions 10 and 12 keep over a session. Definitions only.
 use mathlib.Core.Path.{_≡_}
+use mathlib.Core.Logic.{_⊎_}
 use mathlib.Core.Bool.{true}
 use mathlib.Core.List.{List, [], _∷_, _++_}
 use Prim.Native.Nat.{ℕ, _<_}
@@ -9,7 +10,7 @@ use Rattle.causal.specs.Lists.{Mem}
 use Rattle.causal.specs.Reorderings.{Dependent}
 use Rattle.net.specs.Net.{Marking, Net, hasBond, place, arcsOf}
 use Rattle.net.specs.Firing.{inSet, fire}
-use Rattle.net.specs.Journal.{LiveLine, Journal, Answer, fired, undone, refused, begin, lineOf, transitionNamed, act}
+use Rattle.net.specs.Journal.{LiveLine, Journal, Answer, key, fired, undone, refused, begin, lineOf, transitionNamed, act}
 use Rattle.net.specs.declared.Bond.{Bond}
 use Rattle.net.specs.declared.Entry.{Entry}
 use Rattle.published.specs.Sets.{Item, base, bond, Items}
@@ -56,6 +57,10 @@ marksOf net s x i = Present net s i × (place s (anchor i) ≡ x)
 abbrev pub historyOf : Journal → Keys
 historyOf j t k = (l : LiveLine) × Mem l (j .lines) × (l .transition ≡ t) × (l .key .0 ≡ k)
 
+-- {0} and the keys that were given in answers
+abbrev pub givenAndZero : List Answer → ℕ → Type 0
+givenAndZero rs k = (k ≡ 0) ⊎ Mem (fired (key k)) rs
+
 -- ≺ after one command, by its answer: Definition 10 on a firing, Definition 12 on a taking back. j is the journal before the
 -- command, j′ the journal after it.
 abbrev pub orderStep : Net → Journal → List ℕ → Journal → Answer → Order → Order
@@ -68,9 +73,9 @@ abbrev pub orderAfter : Net → List (List ℕ) → Journal → Order → Order
 orderAfter net [] j R = R
 orderAfter net (c ∷ cs) j R = orderAfter net cs (act net j c .journal) (orderStep net j c (act net j c .journal) (act net j c .answer) R)
 
--- A journal with one line more, which is fired with the key on it.
+-- A journal with one line more, which is fired with the key on it; that key was then given last.
 abbrev pub withLine : Net → Journal → LiveLine → Journal
-withLine net j l = record { marking = fire (net .bases) (arcsOf net (l .transition)) (j .marking); lines = j .lines ++ (l ∷ []) }
+withLine net j l = record { marking = fire (net .bases) (arcsOf net (l .transition)) (j .marking); lines = j .lines ++ (l ∷ []); given = l .key }
 
 -- ≺ after lines are fired in turn on j, each with its own key: Definition 10 at each
 abbrev pub orderOver : Net → List LiveLine → Journal → Order → Order

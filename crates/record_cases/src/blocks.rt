@@ -1,10 +1,12 @@
 // A block of commands (document 02, T-02) by the customer's call, through `block_with`. It is `fire 0`, `undo last`, `fire 0`, .. on sheet A,
-// cut after so many bytes: from a fresh record the answers are fired 1, undone 1, fired 1, ..; a command cut short is refused by 21.
+// cut after so many bytes: from a fresh record the answers are fired 1, undone 1, fired 2, undone 2, ..; from one with nothing live and a
+// highest key given, those above it; a command cut short is refused by 21.
 // All that the block leaves is compared: answer, count, record, tally, and every entry of both lists.
 ghost use mathlib.Core.Path.{_≡_};
 ghost use Prim.Native.Nat.{_≤_};
 ghost use lib.ListN.{length};
 use crate::case::Case;
+use crate::edits::edited;
 use crate::same::same_record;
 use oracle::sets::get;
 use session::Record;
@@ -37,10 +39,12 @@ fn at_most(n: u64, most: usize) -> usize
     if n < most as u64 { n as usize } else { most }
 }
 
-// Entry i of the lists, of which `whole` have the answer to a whole command and `count` an answer; the others are as they were.
-fn entry_holds(i: usize, whole: usize, count: usize, word: u8, value: u16) -> bool {
+// Entry i of the lists, of which `whole` have the answer to a whole command and `count` an answer; the others are as they were. The keys
+// are those after `given`.
+fn entry_holds(i: usize, whole: usize, count: usize, given: u16, word: u8, value: u16) -> bool {
     if i < whole {
-        return (word as usize == i % 2) & (value == 1);
+        let key = given as usize + i / 2 % 1000 + 1;
+        return (word as usize == i % 2) & (value as usize == key);
     }
     if i < count {
         return (word == 2) & (value == 21);
@@ -48,11 +52,17 @@ fn entry_holds(i: usize, whole: usize, count: usize, word: u8, value: u16) -> bo
     (word == 7) & (value == 777)
 }
 
-fn lists_hold(whole: usize, count: usize, words: &[u8; ENTRIES], values: &[u16; ENTRIES]) -> bool {
+fn lists_hold(
+    whole: usize,
+    count: usize,
+    given: u16,
+    words: &[u8; ENTRIES],
+    values: &[u16; ENTRIES],
+) -> bool {
     let mut holds = true;
     let mut i = 0;
     while i < ENTRIES {
-        holds = holds & entry_holds(i, whole, count, words[i], values[i]);
+        holds = holds & entry_holds(i, whole, count, given, words[i], values[i]);
         i += 1;
     }
     holds
@@ -70,12 +80,15 @@ fn tally_holds(t: Tally, u: Tally, whole: usize, cut: usize) -> bool {
     fired & (undone & has_more(t.refused, u.refused, cut))
 }
 
-// The record after so many whole commands: as it was, or with step 0 fired.
+// The record after so many whole commands: with so many keys more given, of firings that were taken back, and then as it was or with step 0
+// fired.
 fn record_after(r: Record, sheet: &[u8], whole: usize, t: Tally) -> Record {
+    let given = r.given;
+    let before = edited(r, 9, 0, given.0 as u64 + (whole / 2 % 1001) as u64);
     if whole % 2 == 0 {
-        return r;
+        return before;
     }
-    let done = command_with(r, sheet, b"\x01\x00\x00", t);
+    let done = command_with(before, sheet, b"\x01\x00\x00", t);
     let o = done.outcome;
     o.session
 }
@@ -118,6 +131,7 @@ pub fn block_holds(c: Case, sheet: &[u8], w: &[u64]) -> bool {
     let count = whole + cut;
     let after = record_after(r, sheet, whole, t);
     let u = x.tally;
-    let lists = lists_hold(whole, count, &words, &values);
+    let given = r.given;
+    let lists = lists_hold(whole, count, given.0, &words, &values);
     lists & (tally_holds(t, u, whole, cut) & outcome_holds(x, number, count, after))
 }

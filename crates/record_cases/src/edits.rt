@@ -3,9 +3,11 @@
 //   0 place i is v              3 v is 0: i firings are live         6 base i put into the moved set of firing v, or taken out
 //   1 bond i is v / 256, v % 256    4 firing v is of transition i    7 firing i is 0
 //   2 v is 0: there are i bonds     5 firing i has key v             8 firings i and v are exchanged, the keys left
+//   9 the highest key given is v
 // Where v is 1, 2 and 3 take i from the highest number.
 use firings::Firings;
 use marking::Marking;
+use net::Key;
 use session::Record;
 
 fn number_of(i: usize, v: u64) -> usize {
@@ -74,6 +76,11 @@ pub fn edited(r: Record, field: u64, i: usize, v: u64) -> Record {
     if field < 3 {
         let m = edited_marking(r.marking, field, i, v);
         next.marking = m;
+        return next;
+    }
+    if field == 9 {
+        let key = Key((v % 65536) as u16);
+        next.given = key;
         return next;
     }
     let f = edited_firings(r.firings, field, i, v);

@@ -37,5 +37,7 @@ pub fn same_record(a: Record, b: Record) -> bool {
     let n = b.marking;
     let f = a.firings;
     let g = b.firings;
-    same_marking(m, n) & same_firings(f, g)
+    let h = a.given;
+    let k = b.given;
+    same_marking(m, n) & (same_firings(f, g) & (h.0 == k.0))
 }

@@ -69,7 +69,7 @@ pub fn put_reason(buf: &mut [u8], r: Reason) -> usize {
         }
         Reason::Steps(n) => put_phrase(buf, b"the sheet has # steps from 0", n as usize, 0, 0, 0),
         Reason::Full => put_phrase(buf, b"256 firings are live", 0, 0, 0, 0),
-        Reason::LastKey => put_phrase(buf, b"the highest live serial is 65535", 0, 0, 0, 0),
+        Reason::LastKey => put_phrase(buf, b"the highest serial given is 65535", 0, 0, 0, 0),
         Reason::NoneLive => put_phrase(buf, b"no firing is live", 0, 0, 0, 0),
         _ => put_named(buf, r),
     }

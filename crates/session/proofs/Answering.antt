@@ -23,12 +23,12 @@ module _ (s : List ℕ) (r : Record) (c : List ℕ) where
   pub refused-by : (n : ℕ) → n ≡ first (recordChecks s r []) → (n ≡ 0 → ⊥) → refusal r n ≡ outcomeFor s r c
   refused-by n e h =
       let own : List Check = checks (netOf s) (heldIn s r) c in
-      sym (by-first false n (refused-clear s (r .marking) (r .firings) n e h own) (sym (refused-first s (r .marking) (r .firings) n e h own)))
+      sym (by-first false n (refused-clear s (r .marking) (r .firings) (r .given) n e h own) (sym (refused-first s (r .marking) (r .firings) (r .given) n e h own)))
 
-  pub performed : Passed s (r .marking) (r .firings) → performOf s r c ≡ outcomeFor s r c
+  pub performed : Passed s (r .marking) (r .firings) (r .given) → performOf s r c ≡ outcomeFor s r c
   performed p = sym (sound-performs s (p .accepted) r c (p .sound))
 
 -- a record that passes 1 to 10 is sound
-pub sound-of : (s : List ℕ) (r : Record) → Passed s (r .marking) (r .firings) → Sound s r
+pub sound-of : (s : List ℕ) (r : Record) → Passed s (r .marking) (r .firings) (r .given) → Sound s r
 unfolding recordOf
-sound-of s r p = record { accepted = p .accepted; sound = p .sound; form = λ i. record { marking = p .laid-out .0 i; firings = p .laid-out .1 i } }
+sound-of s r p = record { accepted = p .accepted; sound = p .sound; form = λ i. record { marking = p .laid-out .0 i; firings = p .laid-out .1 i; given = r .given } }

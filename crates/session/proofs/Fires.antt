@@ -25,7 +25,6 @@ use Rattle.words.specs.Sets.{packed}
 use Rattle.marking.specs.Form.{markingOf, laid}
 use Rattle.marking.specs.declared.Marking.{Marking}
 use Rattle.firings.specs.Lines.{lying, firingsOf}
-use Rattle.firings.specs.Search.{lastKey}
 use Rattle.firings.proofs.Changes.{with-line}
 use Rattle.sound.proofs.Lines.{enabled-first, enabled-listed}
 use Rattle.session.specs.Records.{heldIn, recordOf, Sound}
@@ -33,7 +32,7 @@ use Rattle.session.specs.Commands.{refusal, outcomeOf, fireOutcome}
 use Rattle.session.specs.declared.Record.{Record}
 use Rattle.session.specs.declared.Outcome.{Outcome}
 use Rattle.session.specs.declared.Answer.the-variants.{Fired}
-use Rattle.session.proofs.Sounds.{held, live-is, firings-are, last-given}
+use Rattle.session.proofs.Sounds.{live-is, firings-are}
 
 module _ (s : List ℕ) (r : Record) (t : Transition) (S : Sound s r) where
   abbrev j : Journal
@@ -76,16 +75,16 @@ module _ (s : List ℕ) (r : Record) (t : Transition) (S : Sound s r) where
         let q : leb maxLive (length (j .lines)) ≡ true = ap (leb maxLive) (sym (live-is s r S)) ∙ le-leb maxLive (r .firings .live) h in
         sym (by-first false 17 (clear-space ∙ rw q) (first-space ∙ rw q))
 
-    module _ (room : r .firings .live < maxLive) (last : Key) (el : last ≡ lastKey (r .firings .live) (r .firings .keys)) where
-      given : last ≡ lastGiven j
-      given = el ∙ last-given (basesOf s) (r .firings) (held s r S .up)
+    module _ (room : r .firings .live < maxLive) where
+      abbrev last : Key
+      last = r .given
 
       not-full : leb maxLive (length (j .lines)) ≡ false
       not-full = ap (leb maxLive) (sym (live-is s r S)) ∙ lt-leb maxLive (r .firings .live) room
 
       pub spent : maxKey ≤ last .0 → refusal r 18 ≡ fireOutcome s r t
       spent h =
-          let q : leb maxKey (lastGiven j .0) ≡ true = ap (λ (k : Key). leb maxKey (k .0)) (sym given) ∙ le-leb maxKey (last .0) h in
+          let q : leb maxKey (lastGiven j .0) ≡ true = le-leb maxKey (last .0) h in
           sym (by-first false 18 (clear-space ∙ rw (not-full, q)) (first-space ∙ rw (not-full, q)))
 
       abbrev after : Marking → ℕ → Outcome
@@ -96,6 +95,7 @@ module _ (s : List ℕ) (r : Record) (t : Transition) (S : Sound s r) where
           marking = m;
           firings = lying (r .firings .live + 1) (set (r .firings .transitions) (r .firings .live) (t .0)) (set (r .firings .keys) (r .firings .live) (last .0 + 1))
               (set (r .firings .moved) (r .firings .live) w);
+          given = key (last .0 + 1);
         };
       }
 
@@ -103,11 +103,11 @@ module _ (s : List ℕ) (r : Record) (t : Transition) (S : Sound s r) where
           → w ≡ packed (moved (basesOf s) (arcsOf (netOf s) t) (markingOf (basesOf s) (r .marking))) → after m w ≡ fireOutcome s r t
       unfolding recordOf netOf
       done h m w em ew =
-          let q : leb maxKey (lastGiven j .0) ≡ false = ap (λ (k : Key). leb maxKey (k .0)) (sym given) ∙ lt-leb maxKey (last .0) h in
+          let q : leb maxKey (lastGiven j .0) ≡ false = lt-leb maxKey (last .0) h in
           let l : LiveLine = newLine (netOf s) j t in
-          let k : last .0 + 1 ≡ suc (lastGiven j .0) = add-one (last .0) ∙ ap (λ (y : Key). suc (y .0)) given in
+          let k : last .0 + 1 ≡ suc (lastGiven j .0) = add-one (last .0) in
           let size : length (j .lines) < maxLive = (let a = live-is s r S in omega arith) in
           let fs : after m w .session .firings ≡ firingsOf (j .lines ++ (l ∷ [])) =
           with-line (j .lines) l (r .firings .live) (t .0) (last .0 + 1) w (r .firings .transitions) (r .firings .keys) (r .firings .moved) size (live-is s r S) refl k ew (firings-are s r S) in
-          let so : after m w ≡ outcomeOf (fireReply (netOf s) j t) = λ i. record { answer = Fired; key = key (k i); session = record { marking = em i; firings = fs i } } in
+          let so : after m w ≡ outcomeOf (fireReply (netOf s) j t) = λ i. record { answer = Fired; key = key (k i); session = record { marking = em i; firings = fs i; given = key (k i) } } in
           so ∙ sym (by-first true 0 (clear-space ∙ rw (not-full, q)) (first-space ∙ rw (not-full, q)))

@@ -23,9 +23,9 @@ pub record FitsRecord (n : ℕ) (j : Journal) : Type 0 where
   pub flags : (l : LiveLine) → Mem l (j .lines) → length (l .moved) ≡ n
 
 module _ (n : ℕ) (j : Journal) (F : FitsRecord n j) where
-  pub journal-back : journalIn n (recordOf j .marking) (recordOf j .firings) ≡ j
+  pub journal-back : journalIn n (recordOf j .marking) (recordOf j .firings) (recordOf j .given) ≡ j
   unfolding recordOf
-  journal-back = λ i. record { marking = marking-laid (j .marking) n (F .places) i; lines = lines-back n (j .lines) (F .flags) i }
+  journal-back = λ i. record { marking = marking-laid (j .marking) n (F .places) i; lines = lines-back n (j .lines) (F .flags) i; given = j .given }
 
   pub record-form : formed n (recordOf j .marking) (recordOf j .firings) ≡ true
   unfolding recordOf

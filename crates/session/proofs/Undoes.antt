@@ -117,7 +117,7 @@ module _ (s : List ℕ) (r : Record) (k : Key) (S : Sound s r) where
 
       pub done : builtOnIn (r .firings .live) (r .firings .moved) i ≡ false → (m : Marking) (fs : Firings)
           → m ≡ laid (undo (basesOf s) (arcsOf (netOf s) (transition (f .transition))) (setOf (basesOf s) (f .moved)) (markingOf (basesOf s) (r .marking)))
-          → fs ≡ closedUp i (r .firings) → record { answer = Undone; key = k; session = record { marking = m; firings = fs } } ≡ undoOutcome s r k
+          → fs ≡ closedUp i (r .firings) → record { answer = Undone; key = k; session = record { marking = m; firings = fs; given = r .given } } ≡ undoOutcome s r k
       unfolding recordOf netOf
       done e m fs em ef =
           let q : builtOn ls l ≡ false = sym built-is ∙ e in
@@ -127,6 +127,6 @@ module _ (s : List ℕ) (r : Record) (k : Key) (S : Sound s r) where
           em ∙ ap (λ (x : LiveLine). laid (undo (basesOf s) (arcsOf (netOf s) (x .transition)) (x .moved) (j .marking))) line-is in
           let firings : fs ≡ firingsOf (without k ls) =
           ef ∙ (λ x. closedUp (sym (found .place) x) ((firings-are s r S ∙ ap firingsOf (found .split)) x)) ∙ without-line l xs ys room ∙ ap firingsOf (sym left) in
-          let so : record { answer = Undone; key = k; session = record { marking = m; firings = fs } } ≡ outcomeOf (undoReply (netOf s) j k) =
-          λ x. record { answer = Undone; key = k; session = record { marking = marking x; firings = firings x } } in
+          let so : record { answer = Undone; key = k; session = record { marking = m; firings = fs; given = r .given } } ≡ outcomeOf (undoReply (netOf s) j k) =
+          λ x. record { answer = Undone; key = k; session = record { marking = marking x; firings = firings x; given = r .given } } in
           so ∙ sym (by-first true 0 (rw (found .live, q)) (rw (found .live, q)))

@@ -29,13 +29,13 @@ use Rattle.session.specs.declared.Start.{Start}
 
 -- ---- Starting a session
 
--- A fresh record: the start places, the start couplings, no live firing.
+-- A fresh record: the start places, the start couplings, no live firing; no key was given.
 unfoldable pub freshOf : List ℕ → Record
 freshOf s = recordOf (begin (netOf s))
 
 -- A record of zeros: no place, no bond, no firing.
 unfoldable pub zeroRecord : Record
-zeroRecord = recordOf (record { marking = record { places = []; bonds = [] }; lines = [] })
+zeroRecord = recordOf (record { marking = record { places = []; bonds = [] }; lines = []; given = key 0 })
 
 -- The fresh record, or a record of zeros with the sheet's refusal.
 unfoldable pub startOf : List ℕ → Start
@@ -120,7 +120,7 @@ performOf s r c = pick (clear (checks (netOf s) (heldIn s r) c)) (acceptOf s r c
 
 -- What every call on a record checks before its own: 1 to 9, then 10.
 abbrev pub recordChecks : List ℕ → Record → List Check → List Check
-recordChecks s r own = checksIn s (r .marking) (r .firings) own
+recordChecks s r own = checksIn s (r .marking) (r .firings) (r .given) own
 
 -- All checks of a command, in checking order: 1 to 9, 10, then 21, or 11 to 20.
 abbrev pub commandChecks : List ℕ → Record → List ℕ → List Check

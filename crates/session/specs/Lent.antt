@@ -3,6 +3,7 @@
 use mathlib.Core.List.{List}
 use Prim.Native.Nat.{ℕ}
 use Rattle.net.specs.Journal.{key}
+use Rattle.net.specs.declared.Key.{Key}
 use Rattle.marking.specs.Held.{holding}
 use Rattle.firings.specs.Lines.{lying}
 use Rattle.session.specs.declared.Record.{Record}
@@ -10,14 +11,14 @@ use Rattle.session.specs.declared.Outcome.{Outcome}
 use Rattle.session.specs.declared.Done.{Done}
 use Rattle.session.specs.declared.Answer.the-variants.{Refused}
 
--- places, bonds, live firings
-abbrev pub recordAt : List ℕ → ℕ → List ℕ → List ℕ → ℕ → List ℕ → List ℕ → List ℕ → Record
-recordAt places count lo hi live transitions keys moved = record { marking = holding places count lo hi; firings = lying live transitions keys moved }
+-- places, bonds, live firings, the highest key given
+abbrev pub recordAt : List ℕ → ℕ → List ℕ → List ℕ → ℕ → List ℕ → List ℕ → List ℕ → Key → Record
+recordAt places count lo hi live transitions keys moved k = record { marking = holding places count lo hi; firings = lying live transitions keys moved; given = k }
 
 -- the outcome: the answer, the key, and the record that the arrays hold then
-abbrev pub given : Done → List ℕ → List ℕ → List ℕ → List ℕ → List ℕ → List ℕ → Outcome
-given d places lo hi transitions keys moved = record { answer = d .answer; key = d .key; session = recordAt places (d .count) lo hi (d .live) transitions keys moved }
+abbrev pub outcomeIn : Done → List ℕ → List ℕ → List ℕ → List ℕ → List ℕ → List ℕ → Outcome
+outcomeIn d places lo hi transitions keys moved = record { answer = d .answer; key = d .key; session = recordAt places (d .count) lo hi (d .live) transitions keys moved (d .given) }
 
 -- a refusal: nothing changes, and the key is 0
-abbrev pub refusedIn : ℕ → ℕ → ℕ → Done
-refusedIn n count live = record { answer = Refused n; key = key 0; count = count; live = live }
+abbrev pub refusedIn : ℕ → ℕ → ℕ → Key → Done
+refusedIn n count live k = record { answer = Refused n; key = key 0; count = count; live = live; given = k }

@@ -15,16 +15,16 @@ use Rattle.session.specs.declared.Record.{Record}
 
 -- the journal that a record holds, on a sheet
 abbrev pub heldIn : List ℕ → Record → Journal
-heldIn s r = journalIn (basesOf s) (r .marking) (r .firings)
+heldIn s r = journalIn (basesOf s) (r .marking) (r .firings) (r .given)
 
 -- a journal in the record's form
 unfoldable pub recordOf : Journal → Record
-recordOf j = record { marking = laid (j .marking); firings = firingsOf (j .lines) }
+recordOf j = record { marking = laid (j .marking); firings = firingsOf (j .lines); given = j .given }
 
 -- Sound for a sheet: it has the form, and its firings, run forward alone from the start, are each accepted with those
--- moved bases and end in its places and bonds.
+-- moved bases and end in its places and bonds; the highest key given is no lower than any of theirs (02, T-03).
 abbrev pub soundFor : List ℕ → Record → Bool
-soundFor s r = soundIn s (r .marking) (r .firings)
+soundFor s r = soundIn s (r .marking) (r .firings) (r .given)
 
 -- What an inner command asks: an accepted sheet, a sound record, and nothing in its arrays but what it holds.
 pub record Sound (s : List ℕ) (r : Record) : Type 0 where

@@ -68,6 +68,7 @@ impl Record {
             m.count,
             &m.lo,
             &m.hi,
+            self.given,
         );
         let turned = block_refusal(refusal, block, words.len(), values.len());
         if turned != 0 {

@@ -5,7 +5,7 @@ ghost use Rattle.bonds.specs.Ends.{bondsIn};
 ghost use Rattle.labels.specs.Labelled.{Labelled};
 ghost use Rattle.session.specs.Records.{Sound};
 ghost use Rattle.session.specs.Commands.{fireOutcome, undoOutcome, performOf};
-ghost use Rattle.session.specs.Lent.{recordAt, given};
+ghost use Rattle.session.specs.Lent.{recordAt, outcomeIn};
 use crate::Answer;
 use crate::Command;
 use crate::Decoded;
@@ -27,7 +27,8 @@ use net::Place;
 use net::Transition;
 use steps::enable_refusal;
 
-// Kind 1, in place on the arrays of a record: places, bonds and live firings, and beside them the labels of the bonds.
+// Kind 1, in place on the arrays of a record: places, bonds and live firings; the highest key given goes by value, and beside
+// them the labels of the bonds are lent.
 // The record is sound and the sheet accepted, here and below: `perform` and a list of commands see to it.
 fn fire_in(
     sheet: &[u8],
@@ -42,36 +43,37 @@ fn fire_in(
     moved: &mut [u64; MAX_LIVE],
     l: &mut [Base; MAX_BASES],
     members: &mut [u64; MAX_BASES],
+    given: Key,
 ) -> Done
     requires { ⌜
-        Sound (now sheet) (recordAt (now places) count (now lo) (now hi) live (now transitions) (now keys) (now moved))
+        Sound (now sheet) (recordAt (now places) count (now lo) (now hi) live (now transitions) (now keys) (now moved) given)
         × Labelled (now l) (now members) (bondsIn (now lo) (now hi) count) ⌝ }
     ensures { λ r. ⌜
-        given r (now (places .exit)) (now (lo .exit)) (now (hi .exit)) (now (transitions .exit)) (now (keys .exit)) (now (moved .exit))
+        outcomeIn r (now (places .exit)) (now (lo .exit)) (now (hi .exit)) (now (transitions .exit)) (now (keys .exit)) (now (moved .exit))
         ≡ fireOutcome (now (sheet .entry))
-        (recordAt (now (places .entry)) count (now (lo .entry)) (now (hi .entry)) live (now (transitions .entry)) (now (keys .entry)) (now (moved .entry))) t ⌝ }
+        (recordAt (now (places .entry)) count (now (lo .entry)) (now (hi .entry)) live (now (transitions .entry)) (now (keys .entry)) (now (moved .entry)) given) t ⌝ }
     ensures { λ r. ⌜ Labelled (now (l .exit)) (now (members .exit)) (bondsIn (now (lo .exit)) (now (hi .exit)) (r .count)) ⌝ }
 {
     let refusal = enable_refusal(sheet, places, count, lo, hi, l, t);
     if refusal != 0 {
-        return refused_in(refusal, count, live);
+        return refused_in(refusal, count, live, given);
     }
     if MAX_LIVE <= live {
-        return refused_in(17, count, live);
+        return refused_in(17, count, live, given);
     }
-    let last = last_key(keys, live);
-    if MAX_KEY <= last.0 {
-        return refused_in(18, count, live);
+    if MAX_KEY <= given.0 {
+        return refused_in(18, count, live, given);
     }
     let fired = steps::fire_in(sheet, places, count, lo, hi, l, members, t);
     transitions[live] = t.0 as u8;
-    keys[live] = last.0 + 1;
+    keys[live] = given.0 + 1;
     moved[live] = fired.moved;
     Done {
         answer: Answer::Fired,
-        key: Key(last.0 + 1),
+        key: Key(given.0 + 1),
         count: fired.count,
         live: live + 1,
+        given: Key(given.0 + 1),
     }
 }
 
@@ -89,22 +91,23 @@ fn undo_in(
     moved: &mut [u64; MAX_LIVE],
     l: &mut [Base; MAX_BASES],
     members: &mut [u64; MAX_BASES],
+    given: Key,
 ) -> Done
     requires { ⌜
-        Sound (now sheet) (recordAt (now places) count (now lo) (now hi) live (now transitions) (now keys) (now moved))
+        Sound (now sheet) (recordAt (now places) count (now lo) (now hi) live (now transitions) (now keys) (now moved) given)
         × Labelled (now l) (now members) (bondsIn (now lo) (now hi) count) ⌝ }
     ensures { λ r. ⌜
-        given r (now (places .exit)) (now (lo .exit)) (now (hi .exit)) (now (transitions .exit)) (now (keys .exit)) (now (moved .exit))
+        outcomeIn r (now (places .exit)) (now (lo .exit)) (now (hi .exit)) (now (transitions .exit)) (now (keys .exit)) (now (moved .exit))
         ≡ undoOutcome (now (sheet .entry))
-        (recordAt (now (places .entry)) count (now (lo .entry)) (now (hi .entry)) live (now (transitions .entry)) (now (keys .entry)) (now (moved .entry))) key ⌝ }
+        (recordAt (now (places .entry)) count (now (lo .entry)) (now (hi .entry)) live (now (transitions .entry)) (now (keys .entry)) (now (moved .entry)) given) key ⌝ }
     ensures { λ r. ⌜ Labelled (now (l .exit)) (now (members .exit)) (bondsIn (now (lo .exit)) (now (hi .exit)) (r .count)) ⌝ }
 {
     let i = index_of(keys, live, key);
     if live <= i {
-        return refused_in(19, count, live);
+        return refused_in(19, count, live, given);
     }
     if built_on(moved, live, i) {
-        return refused_in(20, count, live);
+        return refused_in(20, count, live, given);
     }
     let f = firing_at(transitions, keys, moved, i);
     let left = steps::undo_in(
@@ -124,6 +127,7 @@ fn undo_in(
         key: key,
         count: left,
         live: live - 1,
+        given: given,
     }
 }
 
@@ -142,23 +146,24 @@ pub fn perform_in(
     moved: &mut [u64; MAX_LIVE],
     l: &mut [Base; MAX_BASES],
     members: &mut [u64; MAX_BASES],
+    given: Key,
 ) -> Done
     requires { ⌜
-        Sound (now sheet) (recordAt (now places) count (now lo) (now hi) live (now transitions) (now keys) (now moved))
+        Sound (now sheet) (recordAt (now places) count (now lo) (now hi) live (now transitions) (now keys) (now moved) given)
         × Labelled (now l) (now members) (bondsIn (now lo) (now hi) count) ⌝ }
     ensures { λ r. ⌜
-        given r (now (places .exit)) (now (lo .exit)) (now (hi .exit)) (now (transitions .exit)) (now (keys .exit)) (now (moved .exit))
+        outcomeIn r (now (places .exit)) (now (lo .exit)) (now (hi .exit)) (now (transitions .exit)) (now (keys .exit)) (now (moved .exit))
         ≡ performOf (now (sheet .entry))
-        (recordAt (now (places .entry)) count (now (lo .entry)) (now (hi .entry)) live (now (transitions .entry)) (now (keys .entry)) (now (moved .entry)))
+        (recordAt (now (places .entry)) count (now (lo .entry)) (now (hi .entry)) live (now (transitions .entry)) (now (keys .entry)) (now (moved .entry)) given)
         (now (bytes .entry)) ⌝ }
     ensures { λ r. ⌜ Labelled (now (l .exit)) (now (members .exit)) (bondsIn (now (lo .exit)) (now (hi .exit)) (r .count)) ⌝ }
 {
     if bytes.len() < 3 {
-        return refused_in(21, count, live);
+        return refused_in(21, count, live, given);
     }
     let read = decode(bytes);
     let Decoded::Given(c) = read else {
-        return refused_in(11, count, live);
+        return refused_in(11, count, live, given);
     };
     match c {
         Command::Fire(t) => {
@@ -175,6 +180,7 @@ pub fn perform_in(
                 moved,
                 l,
                 members,
+                given,
             )
         }
         Command::Undo(k) => {
@@ -191,6 +197,7 @@ pub fn perform_in(
                 moved,
                 l,
                 members,
+                given,
             )
         }
         Command::UndoLast => {
@@ -208,6 +215,7 @@ pub fn perform_in(
                 moved,
                 l,
                 members,
+                given,
             )
         }
     }

@@ -22,10 +22,12 @@ use net::Transition;
 use sound::record_refusal;
 use tally::Tally;
 
-// The session record: a marking, and the live firings in strictly ascending keys. Unused entries hold 0.
+// The session record: a marking, the live firings in strictly ascending keys, and the highest key ever given. Unused entries
+// hold 0.
 pub struct Record {
     pub marking: Marking,
     pub firings: Firings,
+    pub given: Key,
 }
 
 // A command that can be read.
@@ -116,23 +118,26 @@ pub struct Counted {
     pub tally: Tally,
 }
 
-// What a command in place gives: the answer, the key (0 where it is refused), and how many bonds and live firings there are then.
+// What a command in place gives: the answer, the key (0 where it is refused), how many bonds and live firings there are then, and
+// the highest key given.
 pub struct Done {
     pub answer: Answer,
     pub key: Key,
     pub count: usize,
     pub live: usize,
+    pub given: Key,
 }
 
 // A refused command changes nothing, and has key 0.
-fn refused_in(n: u8, count: usize, live: usize) -> Done
-    ensures { λ r. ⌜ r ≡ refusedIn n count live ⌝ }
+fn refused_in(n: u8, count: usize, live: usize, given: Key) -> Done
+    ensures { λ r. ⌜ r ≡ refusedIn n count live given ⌝ }
 {
     Done {
         answer: Answer::Refused(n),
         key: Key(0),
         count: count,
         live: live,
+        given: given,
     }
 }
 
@@ -178,9 +183,11 @@ impl Record {
             &mut moved,
             &mut l,
             &mut members,
+            self.given,
         );
         let answer = done.answer;
         let key = done.key;
+        let given = done.given;
         Outcome {
             answer: answer,
             key: key,
@@ -197,6 +204,7 @@ impl Record {
                     keys: keys,
                     moved: moved,
                 },
+                given: given,
             },
         }
     }
@@ -217,6 +225,7 @@ impl Record {
             m.count,
             &m.lo,
             &m.hi,
+            self.given,
         );
         if refusal != 0 {
             return self.refused(refusal);

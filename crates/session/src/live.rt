@@ -24,6 +24,7 @@ impl Record {
             m.count,
             &m.lo,
             &m.hi,
+            self.given,
         );
         if refusal != 0 {
             return list_none(refusal);

@@ -19,6 +19,7 @@ use firings::Firings;
 use labels::label_in;
 use marking::Marking;
 use net::Base;
+use net::Key;
 use net::MAX_BASES;
 use net::MAX_BONDS;
 use net::MAX_LIVE;
@@ -26,13 +27,15 @@ use net::Place;
 use tally::Tally;
 use tally::counted;
 
-// What one command came to: the tally after it, its answer as a word and a value, and how many bonds and live firings there are.
+// What one command came to: the tally after it, its answer as a word and a value, how many bonds and live firings there
+// are, and the highest key given.
 struct Stepped {
     pub tally: Tally,
     pub word: u8,
     pub value: u16,
     pub count: usize,
     pub live: usize,
+    pub given: Key,
 }
 
 // The record and the tally after a list of commands.
@@ -57,15 +60,16 @@ fn step_in(
     moved: &mut [u64; MAX_LIVE],
     l: &mut [Base; MAX_BASES],
     members: &mut [u64; MAX_BASES],
+    given: Key,
 ) -> Stepped
     requires { ⌜
-        Sound (now sheet) (recordAt (now places) count (now lo) (now hi) live (now transitions) (now keys) (now moved))
+        Sound (now sheet) (recordAt (now places) count (now lo) (now hi) live (now transitions) (now keys) (now moved) given)
         × Labelled (now l) (now members) (bondsIn (now lo) (now hi) count) ⌝ }
     ensures { λ x. ⌜
         StepGives (commandOf (now (sheet .entry))
-        (recordAt (now (places .entry)) count (now (lo .entry)) (now (hi .entry)) live (now (transitions .entry)) (now (keys .entry)) (now (moved .entry)))
+        (recordAt (now (places .entry)) count (now (lo .entry)) (now (hi .entry)) live (now (transitions .entry)) (now (keys .entry)) (now (moved .entry)) given)
         t (now (bytes .entry))) x
-        (recordAt (now (places .exit)) (x .count) (now (lo .exit)) (now (hi .exit)) (x .live) (now (transitions .exit)) (now (keys .exit)) (now (moved .exit))) ⌝ }
+        (recordAt (now (places .exit)) (x .count) (now (lo .exit)) (now (hi .exit)) (x .live) (now (transitions .exit)) (now (keys .exit)) (now (moved .exit)) (x .given)) ⌝ }
     ensures { λ x. ⌜ Labelled (now (l .exit)) (now (members .exit)) (bondsIn (now (lo .exit)) (now (hi .exit)) (x .count)) ⌝ }
 {
     let done = perform_in(
@@ -81,9 +85,11 @@ fn step_in(
         moved,
         l,
         members,
+        given,
     );
     let answer = done.answer;
     let key = done.key;
+    let next_given = done.given;
     let word = word_of(answer);
     let value = value_of(answer, key);
     let next = counted(t, word);
@@ -93,6 +99,7 @@ fn step_in(
         value: value,
         count: done.count,
         live: done.live,
+        given: next_given,
     }
 }
 
@@ -126,6 +133,7 @@ pub fn run(
     let mut members = [0u64; MAX_BASES];
     label_in(&mut l, &mut members, &lo, &hi, count);
     let mut counts = t;
+    let mut given = r.given;
     let mut at = 0;
     let mut i = 0;
     while at < commands.len() {
@@ -144,12 +152,14 @@ pub fn run(
             &mut moved,
             &mut l,
             &mut members,
+            given,
         );
         words[i] = done.word;
         values[i] = done.value;
         counts = done.tally;
         count = done.count;
         live = done.live;
+        given = done.given;
         at += 3;
         i += 1;
     }
@@ -167,6 +177,7 @@ pub fn run(
                 keys: keys,
                 moved: moved,
             },
+            given: given,
         },
         tally: counts,
     }

@@ -1,5 +1,5 @@
-// Compares the two engines after a command: the answer with its key, the places, the bonds, the whole tally and the live
-// list (module live). What differs is a sum of the numbers below.
+// Compares the two engines after a command: the answer with its key, the places, the bonds, the whole tally, the live list and the
+// highest key given (module live). What differs is a sum of the numbers below, and 128 for an output (module outputs).
 use crate::live::live_differs;
 use marking::Marking;
 use net::MAX_BASES;
@@ -29,6 +29,8 @@ pub const LIVE: u64 = 16;
 pub const MOVED: u64 = 32;
 
 pub const UNUSED: u64 = 64;
+
+pub const GIVEN: u64 = 256;
 
 // A number where a thing is not the same.
 pub fn unless(same: bool, what: u64) -> u64 {

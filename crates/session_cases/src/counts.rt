@@ -1,6 +1,7 @@
 // What is counted of sessions on both engines, in a lent slice of words: commands, differences, answers, and how often the rarer
 // things were met. The first difference of a group is kept, so that it can be found again.
 use oracle::FIRED;
+use oracle::REFUSED;
 use oracle::UNDONE;
 use oracle::highest;
 use oracle::moved_at;
@@ -21,16 +22,16 @@ pub const SHEETS_REFUSED: usize = 14;
 
 // Takings back of a firing that was not the last; firings that carried a base which is no entry, of a transition that has
 // an in-bond, on a sheet with 64 of everything; firings that made 256 live; firings that were given key 65,535; commands after
-// which a count of the tally is 65,535: 15 to 21.
+// which a count of the tally is 65,535; firings while the highest key given was not live; 18 with nothing live: 15 to 23.
 const MIDDLE: usize = 15;
 
 // Bytes of all outputs.
-pub const BYTES: usize = 22;
+pub const BYTES: usize = 24;
 
 // Of the group: how many commands or inputs were run, and how many differed.
-pub const RUN: usize = 23;
+pub const RUN: usize = 31;
 
-pub const DIFFERED: usize = 24;
+pub const DIFFERED: usize = 32;
 
 // Blocks.
 pub const BLOCKS: usize = 30;
@@ -72,8 +73,17 @@ fn is_full(s: &[u64], word: u64) -> bool {
     tally_at(s, word) == 65535
 }
 
-// What a command met, in the order of the counts from MIDDLE on. A taking back was from the middle where a higher key is left.
-fn met_by(sheet: &[u8], s: &[u64], word: u64, key: u64) -> [bool; 7] {
+// Whether a key was given before this one and is not live.
+fn follows_gap(s: &[u64], key: u64) -> bool {
+    if key < 2 {
+        return false;
+    }
+    slot_of(s, key - 1) == 256
+}
+
+// What a command met, in the order of the counts from MIDDLE on. A taking back was from the middle where a higher key is left. The
+// value of a refused command is its number.
+fn met_by(sheet: &[u8], s: &[u64], word: u64, key: u64) -> [bool; 9] {
     let slot = slot_of(s, key);
     let t = transition_at(s, slot);
     let fired = word == FIRED;
@@ -85,12 +95,14 @@ fn met_by(sheet: &[u8], s: &[u64], word: u64, key: u64) -> [bool; 7] {
         fired & (oracle::live(s) == 256),
         fired & (key == 65535),
         is_full(s, 0) | (is_full(s, 1) | is_full(s, 2)),
+        fired & follows_gap(s, key),
+        (word == REFUSED) & ((key == 18) & (oracle::live(s) == 0)),
     ]
 }
 
-fn count_met(c: &mut [u64], met: [bool; 7]) {
+fn count_met(c: &mut [u64], met: [bool; 9]) {
     let mut i: usize = 0;
-    while i < 7 {
+    while i < 9 {
         more(c, MIDDLE + i, 1, met[i]);
         i += 1;
     }

@@ -1,5 +1,6 @@
 // Compares the live list of our record with the second engine's: how many firings are live, each one's transition, key and
-// moved bases in the order of keys, and that every entry after them is 0.
+// moved bases in the order of keys, and that every entry after them is 0. The highest key given is compared too.
+use crate::compare::GIVEN;
 use crate::compare::LIVE;
 use crate::compare::MOVED;
 use crate::compare::UNUSED;
@@ -43,5 +44,8 @@ fn entries_differ(firings: Firings, s: &[u64]) -> u64 {
 
 pub fn live_differs(r: Record, s: &[u64]) -> u64 {
     let firings = r.firings;
-    unless(firings.live == oracle::live(s), LIVE) | entries_differ(firings, s)
+    let given = r.given;
+    let count = unless(firings.live == oracle::live(s), LIVE);
+    let last = unless(given.0 as u64 == oracle::given(s), GIVEN);
+    count | (last | entries_differ(firings, s))
 }

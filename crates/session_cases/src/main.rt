@@ -88,7 +88,7 @@ fn print_first(c: &[u64]) {
     );
     print_count(b"    the second engine's, or the text's", get(c, FIRST + 3));
     print_count(
-        b"    what differs: 1 answer, 2 places, 4 bonds, 8 tally, 16 live list, 32 moved flags, 64 unused entries, 128 output",
+        b"    what differs: 1 answer, 2 places, 4 bonds, 8 tally, 16 live list, 32 moved flags, 64 unused entries, 128 output, 256 highest key given",
         get(c, FIRST + 4),
     );
 }

@@ -1,6 +1,6 @@
 // A session on both engines: each command, by lot or by its letter, is given to both, and what they answer and hold afterwards is
 // compared (compare) and counted (counts). A way is a row of numbers: 1 the kind of case, 2 how many sessions, 3 how many commands
-// each has, 4 above how many live firings most take back, 5 before which command, counted from 0, the highest key is raised (after the
+// each has, 4 above how many live firings most take back, 5 before which command, counted from 0, keys are raised (after the
 // last: never), 6 what each count of the tally begins with, 7 to 14 the plan of the sheets.
 use crate::compare::differs;
 use crate::counts::SHEETS_REFUSED;
@@ -80,7 +80,13 @@ fn turn(
     given(p, c, sheet, s, &bytes[0..n], seed, i)
 }
 
-// The record with another key in the last live firing: it stays sound where that is above the others.
+// The highest of two keys.
+fn later(k: Key, key: u16) -> Key {
+    if k.0 < key { Key(key) } else { k }
+}
+
+// The record with another key in the last live firing, if there is one, and a highest given that is not below it: it stays sound
+// where that key is above the others.
 fn with_last_key(r: Record, key: u16) -> Record {
     let mut f = r.firings;
     let mut next = r;
@@ -89,10 +95,11 @@ fn with_last_key(r: Record, key: u16) -> Record {
         f.keys[i] = key;
     }
     next.firings = f;
+    next.given = later(r.given, key);
     next
 }
 
-// The highest key is raised in our record; not where 0 is given.
+// The highest live key, and the highest given, are raised in our record; not where the key is 0.
 fn raised(p: Counted, key: u16) -> Counted {
     if key == 0 {
         return p;
@@ -106,9 +113,10 @@ fn raised(p: Counted, key: u16) -> Counted {
 }
 
 // Where letters are given, each is a command of a step that can always fire, as step 2 of sheet B is:
-//   f fires the step           r raises the highest serial to 65,534 in both engines, and fires
+//   f fires the step           r raises the highest live serial to 65,534 in both engines, and fires
 //   u takes back the last      t raises it to 65,535, and fires
 //   a takes back 65,534        b takes back 65,535
+// The highest serial given is raised with it, also where nothing is live.
 fn letter_raise(letter: u8) -> u16 {
     if letter == b'r' {
         return 65534;

@@ -9,6 +9,7 @@ ghost use Rattle.session.specs.Commands.{zeroRecord, startOf, startNumber};
 use firings::Firings;
 use fresh_marking::start_marking;
 use marking::Marking;
+use net::Key;
 use net::MAX_BASES;
 use net::MAX_BONDS;
 use net::MAX_LIVE;
@@ -43,6 +44,7 @@ fn zero_record() -> Record
     Record {
         marking: m,
         firings: no_firings(),
+        given: Key(0),
     }
 }
 
@@ -65,6 +67,7 @@ pub fn start(sheet: &[u8]) -> Start
         session: Record {
             marking: m,
             firings: no_firings(),
+            given: Key(0),
         },
     }
 }

@@ -2,4 +2,5 @@
 pub mod Lines
 pub mod Keys
 pub mod Tests
+pub mod Given
 pub mod Refusing

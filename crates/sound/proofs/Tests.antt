@@ -34,7 +34,7 @@ use Rattle.firings.specs.declared.Firings.{Firings}
 use Rattle.marking.proofs.Room.{bonds-fit}
 use Rattle.fresh_marking.specs.Start.{StartFits}
 use Rattle.steps.specs.Placed.{Placed}
-use Rattle.sound.specs.Soundness.{soundIn}
+use Rattle.sound.specs.Soundness.{runsIn}
 use Rattle.sound.proofs.Lines.{placed-laid}
 use Rattle.sound.proofs.Keys.{keys-order}
 
@@ -80,24 +80,24 @@ module _ (s : List ℕ) (m : Marking) (f : Firings) where
   abbrev run : Bool
   run = replays (netOf s) (netOf s .start) (linesIn (basesOf s) f) (markingOf (basesOf s) m)
 
-  pub too-many : maxLive < f .live → false ≡ soundIn s m f
-  unfolding soundIn
+  pub too-many : maxLive < f .live → false ≡ runsIn s m f
+  unfolding runsIn
   too-many h = sym (ap (λ (b : Bool). (inForm (basesOf s) m && (b && firingsInForm (basesOf s) f)) && (linesInForm (linesIn (basesOf s) f) && run)) (lt-leb (f .live) maxLive h)
       ∙ ap (λ (b : Bool). b && (linesInForm (linesIn (basesOf s) f) && run)) (and-false (inForm (basesOf s) m)))
 
   module _ (few : f .live ≤ maxLive) where
     -- soundness, test by test
-    tests : soundIn s m f ≡ ((inForm (basesOf s) m && (true && firingsInForm (basesOf s) f)) && ((true && climbs 0 (keysIn (f .live) (f .keys))) && run))
-    unfolding soundIn
+    tests : runsIn s m f ≡ ((inForm (basesOf s) m && (true && firingsInForm (basesOf s) f)) && ((true && climbs 0 (keysIn (f .live) (f .keys))) && run))
+    unfolding runsIn
     tests =
         let size : length (linesIn (basesOf s) f) ≡ f .live = length-table (f .live) _ in
         λ i. (inForm (basesOf s) m && (le-leb (f .live) maxLive few i && firingsInForm (basesOf s) f))
         && (((ap (λ (x : ℕ). leb x maxLive) size ∙ le-leb (f .live) maxLive few) i && sym (keys-order (basesOf s) f) i) && run)
 
-    pub unsound : (inForm (basesOf s) m && (firingsInForm (basesOf s) f && climbs 0 (keysIn (f .live) (f .keys)))) ≡ false → false ≡ soundIn s m f
+    pub unsound : (inForm (basesOf s) m && (firingsInForm (basesOf s) f && climbs 0 (keysIn (f .live) (f .keys)))) ≡ false → false ≡ runsIn s m f
     unsound h = sym (tests ∙ one-fails (inForm (basesOf s) m) (firingsInForm (basesOf s) f) (climbs 0 (keysIn (f .live) (f .keys))) run h)
 
-    pub by-run : (inForm (basesOf s) m && (firingsInForm (basesOf s) f && climbs 0 (keysIn (f .live) (f .keys)))) ≡ true → run ≡ soundIn s m f
+    pub by-run : (inForm (basesOf s) m && (firingsInForm (basesOf s) f && climbs 0 (keysIn (f .live) (f .keys)))) ≡ true → run ≡ runsIn s m f
     by-run h = sym (tests ∙ all-pass (inForm (basesOf s) m) (firingsInForm (basesOf s) f) (climbs 0 (keysIn (f .live) (f .keys))) run h)
 
 -- each moved set of firings in their form is of the bases

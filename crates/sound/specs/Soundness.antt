@@ -1,4 +1,4 @@
--- Soundness of what a record holds: a marking m and live firings f (01, commands, record, tally).
+-- Soundness of what a record holds: a marking m, live firings f and the highest key given k (01, commands, record, tally; 02, T-03).
 -- Definitions only. n is the number of bases.
 use mathlib.Core.Path.{_≡_}
 use mathlib.Core.Bool.{Bool, true, not, _&&_}
@@ -8,7 +8,8 @@ use lib.Dec.{leb}
 use Rattle.net.specs.Limits.{maxLive}
 use Rattle.net.specs.Checks.{Check, check, clear}
 use Rattle.net.specs.Journal.{Journal}
-use Rattle.net.specs.History.{sound}
+use Rattle.net.specs.History.{linesInForm, replays, sound}
+use Rattle.net.specs.declared.Key.{Key}
 use Rattle.format.specs.Parts.{basesOf}
 use Rattle.format.specs.NetOf.{netOf}
 use Rattle.sheet.specs.Checks.{sheetChecks}
@@ -18,9 +19,9 @@ use Rattle.firings.specs.Lines.{linesIn, firingsOf}
 use Rattle.firings.specs.Form.{firingsInForm}
 use Rattle.firings.specs.declared.Firings.{Firings}
 
--- the journal that they hold
-abbrev pub journalIn : ℕ → Marking → Firings → Journal
-journalIn n m f = record { marking = markingOf n m; lines = linesIn n f }
+-- the journal that they hold, with the highest key given
+abbrev pub journalIn : ℕ → Marking → Firings → Key → Journal
+journalIn n m f k = record { marking = markingOf n m; lines = linesIn n f; given = k }
 
 -- The form: bonds and live firings fit their arrays, and unused entries hold 0.
 abbrev pub formed : ℕ → Marking → Firings → Bool
@@ -30,16 +31,20 @@ formed n m f = inForm n m && (leb (f .live) maxLive && firingsInForm n f)
 abbrev pub LaidOut : ℕ → Marking → Firings → Type 0
 LaidOut n m f = (m ≡ laid (markingOf n m)) × (f ≡ firingsOf (linesIn n f))
 
--- Sound for the sheet s: formed, and a sound history of its net.
-unfoldable pub soundIn : List ℕ → Marking → Firings → Bool
-soundIn s m f = formed (basesOf s) m f && sound (netOf s) (journalIn (basesOf s) m f)
+-- Sound for the sheet s: formed, and a sound history of its net, the highest key given among it.
+unfoldable pub soundIn : List ℕ → Marking → Firings → Key → Bool
+soundIn s m f k = formed (basesOf s) m f && sound (netOf s) (journalIn (basesOf s) m f k)
+
+-- The same of all but the key: formed, keys in order, and the firings run forward to the marking.
+unfoldable pub runsIn : List ℕ → Marking → Firings → Bool
+runsIn s m f = formed (basesOf s) m f && (linesInForm (linesIn (basesOf s) f) && replays (netOf s) (netOf s .start) (linesIn (basesOf s) f) (markingOf (basesOf s) m))
 
 -- What every call on a record checks before its own: 1 to 9, then 10.
-abbrev pub checksIn : List ℕ → Marking → Firings → List Check → List Check
-checksIn s m f own = sheetChecks s ++ (check 10 (not (soundIn s m f)) ∷ own)
+abbrev pub checksIn : List ℕ → Marking → Firings → Key → List Check → List Check
+checksIn s m f k own = sheetChecks s ++ (check 10 (not (soundIn s m f k)) ∷ own)
 
 -- None of them holds.
-pub record Passed (s : List ℕ) (m : Marking) (f : Firings) : Type 0 where
+pub record Passed (s : List ℕ) (m : Marking) (f : Firings) (k : Key) : Type 0 where
   pub accepted : clear (sheetChecks s) ≡ true
-  pub sound : soundIn s m f ≡ true
+  pub sound : soundIn s m f k ≡ true
   pub laid-out : LaidOut (basesOf s) m f

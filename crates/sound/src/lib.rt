@@ -1,5 +1,6 @@
 // Whether what a record holds is sound for a sheet (document 01, commands, record, tally; refusal 10): it has the form,
-// its keys ascend, and its firings, run forward alone from the start, are accepted and end in its marking.
+// its keys ascend, and its firings, run forward alone from the start, are accepted and end in its marking; the highest key given is
+// no lower than any of them (document 02, T-03).
 ghost use mathlib.Core.Path.{_≡_};
 ghost use mathlib.Core.Bool.{true, _&&_};
 ghost use mathlib.Core.List.{[]};
@@ -19,17 +20,19 @@ ghost use Rattle.marking.specs.Form.{markingOf, laid};
 ghost use Rattle.marking.specs.Held.{holding};
 ghost use Rattle.firings.specs.Lines.{lying, asLine, linesIn};
 ghost use Rattle.steps.specs.Placed.{Placed};
-ghost use Rattle.sound.specs.Soundness.{soundIn, LaidOut, checksIn, Passed};
+ghost use Rattle.sound.specs.Soundness.{runsIn, LaidOut, checksIn, Passed};
 use firings::Firing;
 use firings::firing_at;
 use firings::firings_in_form;
 use firings::keys_climb;
+use firings::last_key;
 use format::base_count;
 use fresh_marking::start_marking;
 use labels::label_in;
 use marking_form::in_form;
 use marking_form::same_marking;
 use net::Base;
+use net::Key;
 use net::MAX_BASES;
 use net::MAX_BONDS;
 use net::MAX_LIVE;
@@ -180,8 +183,8 @@ fn runs_to<'a>(
     same_marking(n, &placed, end.count, &los, &his, places, count, lo, hi)
 }
 
-// Whether what a record holds is sound for the sheet; where it is, its arrays are laid out as what it holds is.
-// Callers have checked the sheet.
+// Whether what a record holds, the highest key given aside, is sound for the sheet; where it is, its arrays are laid out as what it
+// holds is. `record_refusal` has checked the sheet.
 fn is_sound<'a>(
     sheet: &[u8],
     live: usize,
@@ -195,7 +198,7 @@ fn is_sound<'a>(
 ) -> bool
     requires { ⌜ clear (sheetChecks (now sheet)) ≡ true ⌝ }
     ensures { λ r. ⌜
-        r ≡ soundIn (now (sheet .entry)) (holding (now (places .entry)) count (now (lo .entry)) (now (hi .entry)))
+        r ≡ runsIn (now (sheet .entry)) (holding (now (places .entry)) count (now (lo .entry)) (now (hi .entry)))
         (lying live (now (transitions .entry)) (now (keys .entry)) (now (moved .entry))) ⌝ }
     ensures { λ r. ⌜
         (r ≡ true → LaidOut (basesOf (now (sheet .entry)))
@@ -227,13 +230,14 @@ pub fn record_refusal<'a>(
     count: usize,
     lo: &'a [Base; MAX_BONDS],
     hi: &'a [Base; MAX_BONDS],
+    given: Key,
 ) -> u8
     ensures { λ r. ⌜
         r ≡ first (checksIn (now (sheet .entry)) (holding (now (places .entry)) count (now (lo .entry)) (now (hi .entry)))
-        (lying live (now (transitions .entry)) (now (keys .entry)) (now (moved .entry))) []) ⌝ }
+        (lying live (now (transitions .entry)) (now (keys .entry)) (now (moved .entry))) given []) ⌝ }
     ensures { λ r. ⌜
         (r ≡ 0 → Passed (now (sheet .entry)) (holding (now (places .entry)) count (now (lo .entry)) (now (hi .entry)))
-        (lying live (now (transitions .entry)) (now (keys .entry)) (now (moved .entry)))) ⌝ }
+        (lying live (now (transitions .entry)) (now (keys .entry)) (now (moved .entry))) given) ⌝ }
 {
     let checked = check_sheet(sheet);
     let refusal = sheet_number(checked);
@@ -243,5 +247,6 @@ pub fn record_refusal<'a>(
     if !is_sound(sheet, live, transitions, keys, moved, places, count, lo, hi) {
         return 10;
     }
-    0
+    let last = last_key(keys, live);
+    if given.0 < last.0 { 10 } else { 0 }
 }

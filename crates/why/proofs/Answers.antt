@@ -46,13 +46,13 @@ module _ (s : List ℕ) (r : Record) (c : List ℕ) where
 
   pub why-sheet : (n : ℕ) → n ≡ first (recordChecks s r []) → (n ≡ 0 → ⊥) → (n ≡ 10 → ⊥) → Reason.Sheet ≡ whyOf s r c
   why-sheet n e h t =
-      why-by n (refused-first s (r .marking) (r .firings) n e h (checks (netOf s) (heldIn s r) c)) Reason.Sheet
-      (sheet-reason (netOf s) (heldIn s r) c n h (sheet-low s n (of-sheet s (r .marking) (r .firings) n e h t) h))
+      why-by n (refused-first s (r .marking) (r .firings) (r .given) n e h (checks (netOf s) (heldIn s r) c)) Reason.Sheet
+      (sheet-reason (netOf s) (heldIn s r) c n h (sheet-low s n (of-sheet s (r .marking) (r .firings) (r .given) n e h t) h))
 
   pub why-record : (n : ℕ) → n ≡ first (recordChecks s r []) → n ≡ 10 → Reason.Record ≡ whyOf s r c
   why-record n e t =
       let q : 10 ≡ first (recordChecks s r []) = sym t ∙ e in
-      why-by 10 (refused-first s (r .marking) (r .firings) 10 q (λ z. omega arith) (checks (netOf s) (heldIn s r) c)) Reason.Record (record-reason (netOf s) (heldIn s r) c)
+      why-by 10 (refused-first s (r .marking) (r .firings) (r .given) 10 q (λ z. omega arith) (checks (netOf s) (heldIn s r) c)) Reason.Record (record-reason (netOf s) (heldIn s r) c)
 
 -- ---- the record of a journal
 

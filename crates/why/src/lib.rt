@@ -240,6 +240,7 @@ pub fn why(r: Record, sheet: &[u8], bytes: &[u8]) -> Reason
         m.count,
         &m.lo,
         &m.hi,
+        r.given,
     );
     if refusal == 10 {
         return Reason::Record;

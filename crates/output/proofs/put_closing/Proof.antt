@@ -48,7 +48,7 @@ returns c =
     let r = from .args .r in
     let t = from .args .t in
     let m = r .marking in
-    let whole = closing-pieces (from .args .buf .now) (from .args .at) (from .args .bases) m (r .firings) t
+    let whole = closing-pieces (from .args .buf .now) (from .args .at) (from .args .bases) m (r .firings) (r .given) t
     (c .before .before .before .before .before .before .before .before .before .before .before .before .before .before .before .before .before .before .before .put-base-places .ensures .0)
     (c .before .before .before .before .before .before .before .before .before .before .before .before .before .put-bonds .ensures)
     (c .before .before .before .before .before .before .put-live-keys .ensures .0)

@@ -5,7 +5,8 @@ use mathlib.Core.Path.{ap, _∙_}
 use Rattle.net.specs.Journal.{key, highestLive, numberOf}
 use Rattle.format.specs.Parts.{basesOf}
 use Rattle.session.specs.Records.{heldIn}
-use Rattle.session.proofs.Sounds.{live-few, held, last-given}
+use Rattle.sound.proofs.Given.{last-given}
+use Rattle.session.proofs.Sounds.{live-few, held}
 use Rattle.why.proofs.Latest.{kind-last, kind-key}
 use Rattle.why.proofs.key_named.Statement.{statement}
 use Rattle.why.proofs.key_named.Tie as tie

@@ -36,7 +36,7 @@ reason-by-requires c κs =
     let l : tie.Else2 = c .before in
     let d : tie.After-record-refusal = l .before .before in
     let s : tie.Start = start d in
-    let p : Passed (s .args .sheet .now) (s .args .r .marking) (s .args .r .firings) = d .record-refusal .ensures .1 (l .if2 .left) in
+    let p : Passed (s .args .sheet .now) (s .args .r .marking) (s .args .r .firings) (s .args .r .given) = d .record-refusal .ensures .1 (l .if2 .left) in
     (sound-of (s .args .sheet .now) (s .args .r) p, c .number-of .ensures ∙ first-own (s .args .sheet .now) (s .args .r) (s .args .bytes .now) (p .accepted) (p .sound))
 
 returns-3 : tie.Need-returns-3

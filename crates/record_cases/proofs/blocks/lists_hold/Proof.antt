@@ -6,10 +6,10 @@ use Rattle.record_cases.proofs.blocks.lists_hold.Statement.{statement}
 use Rattle.record_cases.proofs.blocks.lists_hold.Tie as tie
 
 abbrev Inv-loop : tie.InvT-loop
-Inv-loop whole count words values holds₀ i₀ holds i = Unit {0}
+Inv-loop whole count given words values holds₀ i₀ holds i = Unit {0}
 
 abbrev μ-loop : tie.MeasureT-loop
-μ-loop whole count words values holds₀ i₀ holds i = 1001 - i
+μ-loop whole count given words values holds₀ i₀ holds i = 1001 - i
 
 loop-holds : tie.Need-loop-holds Inv-loop μ-loop
 loop-holds c = search needs

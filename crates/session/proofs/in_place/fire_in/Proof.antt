@@ -4,7 +4,7 @@ use borrow.Author.Needs.{needs}
 use native.Mathlib.Omega.{arith}
 use mathlib.Core.Path.{ap, _∙_}
 use Rattle.sheet.proofs.Accepted.{promised}
-use Rattle.session.specs.Lent.{recordAt, given}
+use Rattle.session.specs.Lent.{recordAt, outcomeIn}
 use Rattle.session.specs.declared.Record.{Record}
 use Rattle.session.specs.declared.Done.{Done}
 use Rattle.session.specs.declared.Outcome.{Outcome}
@@ -18,10 +18,10 @@ abbrev start : tie.After-enable-refusal → tie.Start
 start c = c .before .before .before .before .before .before
 
 abbrev lent : tie.Start → Record
-lent s = recordAt (s .args .places .now) (s .args .count) (s .args .lo .now) (s .args .hi .now) (s .args .live) (s .args .transitions .now) (s .args .keys .now) (s .args .moved .now)
+lent s = recordAt (s .args .places .now) (s .args .count) (s .args .lo .now) (s .args .hi .now) (s .args .live) (s .args .transitions .now) (s .args .keys .now) (s .args .moved .now) (s .args .given)
 
 abbrev unchanged : tie.Start → Done → Outcome
-unchanged s d = given d (s .args .places .now) (s .args .lo .now) (s .args .hi .now) (s .args .transitions .now) (s .args .keys .now) (s .args .moved .now)
+unchanged s d = outcomeIn d (s .args .places .now) (s .args .lo .now) (s .args .hi .now) (s .args .transitions .now) (s .args .keys .now) (s .args .moved .now)
 
 enable-refusal-requires : tie.Need-enable-refusal-requires
 enable-refusal-requires c κs =
@@ -47,24 +47,20 @@ returns-2 c =
     let s : tie.Start = start e in
     (ap (unchanged s) (c .refused-in2 .ensures) ∙ full (s .args .sheet .now) (lent s) (s .args .t) (s .pre .0) _ (e .enable-refusal .ensures) (o .if1 .left) (c .before .if2 .taken), rw (c .refused-in2 .ensures) (s .pre .1))
 
-last-key-requires : tie.Need-last-key-requires
-last-key-requires c κs = search needs
-
 refused-in-requires-3 : tie.Need-refused-in-requires-3
 refused-in-requires-3 c κs = search needs
 
 returns-3 : tie.Need-returns-3
 returns-3 c =
-    let k : tie.After-last-key = c .before .before .before in
-    let w : tie.Else2 = k .before .before in
+    let w : tie.Else2 = c .before .before .before in
     let o : tie.Else1 = w .before in
     let e : tie.After-enable-refusal = o .before in
     let s : tie.Start = start e in
-    (ap (unchanged s) (c .refused-in3 .ensures) ∙ spent (s .args .sheet .now) (lent s) (s .args .t) (s .pre .0) _ (e .enable-refusal .ensures) (o .if1 .left) (w .if2 .left) _ (k .last-key .ensures) (c .before .if3 .taken), rw (c .refused-in3 .ensures) (s .pre .1))
+    (ap (unchanged s) (c .refused-in3 .ensures) ∙ spent (s .args .sheet .now) (lent s) (s .args .t) (s .pre .0) _ (e .enable-refusal .ensures) (o .if1 .left) (w .if2 .left) (c .before .if3 .taken), rw (c .refused-in3 .ensures) (s .pre .1))
 
 -- the transition is on the sheet
 abbrev enabled : tie.Else3 → tie.Else1
-enabled c = c .before .before .before .before .before
+enabled c = c .before .before .before
 
 fire-in-requires : tie.Need-fire-in-requires
 fire-in-requires c κs =
@@ -99,21 +95,23 @@ mul-moved c = search needs
 element-write-moved : tie.Need-element-write-moved
 element-write-moved c = search needs
 
+add-t29 : tie.Need-add-t29
+add-t29 c = search needs
+
 add-t30 : tie.Need-add-t30
 add-t30 c = search needs
 
-add-t31 : tie.Need-add-t31
-add-t31 c = search needs
+add-t37 : tie.Need-add-t37
+add-t37 c = search needs
 
 returns-4 : tie.Need-returns-4
 returns-4 c =
-    let d : tie.After-fire-in = c .before .before .before in
+    let d : tie.After-fire-in = c .before .before .before .before in
     let x : tie.Else3 = d .before .before .before .before .before .before in
-    let k : tie.After-last-key = x .before .before in
-    let w : tie.Else2 = k .before .before in
+    let w : tie.Else2 = x .before .before in
     let o : tie.Else1 = w .before in
     let s : tie.Start = start (o .before) in
-    (done (s .args .sheet .now) (lent s) (s .args .t) (s .pre .0) _ (o .before .enable-refusal .ensures) (o .if1 .left) (w .if2 .left) _ (k .last-key .ensures) (x .if3 .left) _ _ (d .fire-in .ensures .0) (d .fire-in .ensures .1 .0), d .fire-in .ensures .1 .1)
+    (done (s .args .sheet .now) (lent s) (s .args .t) (s .pre .0) _ (o .before .enable-refusal .ensures) (o .if1 .left) (w .if2 .left) (x .if3 .left) _ _ (d .fire-in .ensures .0) (d .fire-in .ensures .1 .0), d .fire-in .ensures .1 .1)
 
 pub fire-in-spec : {M : Type 1} → statement M
 fire-in-spec =
@@ -124,7 +122,6 @@ fire-in-spec =
     returns
     refused-in-requires-2
     returns-2
-    last-key-requires
     refused-in-requires-3
     returns-3
     fire-in-requires
@@ -135,6 +132,7 @@ fire-in-spec =
     element-write-keys
     mul-moved
     element-write-moved
+    add-t29
     add-t30
-    add-t31
+    add-t37
     returns-4)

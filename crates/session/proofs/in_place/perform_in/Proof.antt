@@ -5,21 +5,22 @@ use borrow.Author.Tests.{lt-ltb, le-ltb}
 use mathlib.Core.Path.{ap, _∙_}
 use Rattle.format.specs.Parts.{basesOf}
 use Rattle.session.specs.Commands.{undoOutcome}
-use Rattle.session.specs.Lent.{recordAt, given}
+use Rattle.session.specs.Lent.{recordAt, outcomeIn}
 use Rattle.session.specs.declared.Record.{Record}
 use Rattle.session.specs.declared.Done.{Done}
 use Rattle.session.specs.declared.Outcome.{Outcome}
-use Rattle.session.proofs.Sounds.{held, live-few, last-given}
+use Rattle.sound.proofs.Given.{last-given}
+use Rattle.session.proofs.Sounds.{held, live-few}
 use Rattle.session.proofs.Performing.{cut, unread, given as commanded}
 use Rattle.session.proofs.in_place.perform_in.Statement.{statement}
 use Rattle.session.proofs.in_place.perform_in.Tie as tie
 
 -- the record that was lent, and the outcome where nothing changed
 abbrev lent : tie.Start → Record
-lent s = recordAt (s .args .places .now) (s .args .count) (s .args .lo .now) (s .args .hi .now) (s .args .live) (s .args .transitions .now) (s .args .keys .now) (s .args .moved .now)
+lent s = recordAt (s .args .places .now) (s .args .count) (s .args .lo .now) (s .args .hi .now) (s .args .live) (s .args .transitions .now) (s .args .keys .now) (s .args .moved .now) (s .args .given)
 
 abbrev unchanged : tie.Start → Done → Outcome
-unchanged s d = given d (s .args .places .now) (s .args .lo .now) (s .args .hi .now) (s .args .transitions .now) (s .args .keys .now) (s .args .moved .now)
+unchanged s d = outcomeIn d (s .args .places .now) (s .args .lo .now) (s .args .hi .now) (s .args .transitions .now) (s .args .keys .now) (s .args .moved .now)
 
 abbrev start : tie.Else1 → tie.Start
 start e = e .before .before .before

@@ -3,7 +3,7 @@
 use borrow.Author.Needs.{needs}
 use native.Mathlib.Omega.{arith}
 use mathlib.Core.Path.{sym, ap, _∙_}
-use Rattle.session.specs.Lent.{recordAt, given}
+use Rattle.session.specs.Lent.{recordAt, outcomeIn}
 use Rattle.session.specs.declared.Record.{Record}
 use Rattle.session.specs.declared.Done.{Done}
 use Rattle.session.specs.declared.Outcome.{Outcome}
@@ -17,10 +17,10 @@ abbrev start : tie.After-index-of → tie.Start
 start c = c .before .before .before
 
 abbrev lent : tie.Start → Record
-lent s = recordAt (s .args .places .now) (s .args .count) (s .args .lo .now) (s .args .hi .now) (s .args .live) (s .args .transitions .now) (s .args .keys .now) (s .args .moved .now)
+lent s = recordAt (s .args .places .now) (s .args .count) (s .args .lo .now) (s .args .hi .now) (s .args .live) (s .args .transitions .now) (s .args .keys .now) (s .args .moved .now) (s .args .given)
 
 abbrev unchanged : tie.Start → Done → Outcome
-unchanged s d = given d (s .args .places .now) (s .args .lo .now) (s .args .hi .now) (s .args .transitions .now) (s .args .keys .now) (s .args .moved .now)
+unchanged s d = outcomeIn d (s .args .places .now) (s .args .lo .now) (s .args .hi .now) (s .args .transitions .now) (s .args .keys .now) (s .args .moved .now)
 
 index-of-requires : tie.Need-index-of-requires
 index-of-requires c κs = let s : tie.Start = c .before .before in (live-few (s .args .sheet .now) (lent s) (s .pre .0), keys-rise (s .args .sheet .now) (lent s) (s .pre .0))
@@ -78,8 +78,8 @@ close-up-requires c κs =
     let z = firings-sized (s .args .sheet .now) (lent s) (s .pre .0) in
     ((e .if1 .left, live-few (s .args .sheet .now) (lent s) (s .pre .0)), (z .transitions, z .keys, z .moved))
 
-sub-t34 : tie.Need-sub-t34
-sub-t34 c = search needs
+sub-t35 : tie.Need-sub-t35
+sub-t35 c = search needs
 
 returns-3 : tie.Need-returns-3
 returns-3 c =
@@ -107,5 +107,5 @@ undo-in-spec =
     transition-of-requires
     undo-in-requires
     close-up-requires
-    sub-t34
+    sub-t35
     returns-3)

@@ -21,20 +21,20 @@ use Rattle.session.proofs.run.run.Tie as tie
 
 -- the arrays hold a sound record, the labels are those of its bonds, and all is as after the first i commands
 abbrev Inv-loop : tie.InvT-loop
-Inv-loop sheet commands words₀ values₀ places₀ count₀ lo₀ hi₀ live₀ transitions₀ keys₀ moved₀ l₀ members₀ counts₀ at₀ i₀ words values places count lo hi live transitions keys moved l members counts at i =
+Inv-loop sheet commands words₀ values₀ places₀ count₀ lo₀ hi₀ live₀ transitions₀ keys₀ moved₀ l₀ members₀ counts₀ given₀ at₀ i₀ words values places count lo hi live transitions keys moved l members counts given at i =
     (at ≡ 3 * i) × (i ≤ howMany commands) × (howMany commands ≤ length words₀) × (howMany commands ≤ length values₀) × (length words ≡ length words₀) × (length values ≡ length values₀)
-    × Sound sheet (recordAt places count lo hi live transitions keys moved) × Labelled l members (bondsIn lo hi count)
-    × Upto sheet commands (recordAt places₀ count₀ lo₀ hi₀ live₀ transitions₀ keys₀ moved₀) counts₀ words₀ values₀ i (recordAt places count lo hi live transitions keys moved) counts words values × (length commands < 9223372036854775808)
+    × Sound sheet (recordAt places count lo hi live transitions keys moved given) × Labelled l members (bondsIn lo hi count)
+    × Upto sheet commands (recordAt places₀ count₀ lo₀ hi₀ live₀ transitions₀ keys₀ moved₀ given₀) counts₀ words₀ values₀ i (recordAt places count lo hi live transitions keys moved given) counts words values × (length commands < 9223372036854775808)
 
 abbrev μ-loop : tie.MeasureT-loop
-μ-loop sheet commands words₀ values₀ places₀ count₀ lo₀ hi₀ live₀ transitions₀ keys₀ moved₀ l₀ members₀ counts₀ at₀ i₀ words values places count lo hi live transitions keys moved l members counts at i = length commands - at
+μ-loop sheet commands words₀ values₀ places₀ count₀ lo₀ hi₀ live₀ transitions₀ keys₀ moved₀ l₀ members₀ counts₀ given₀ at₀ i₀ words values places count lo hi live transitions keys moved l members counts given at i = length commands - at
 
 -- the function's start, and the record that the arrays hold at a turn
 abbrev start : tie.At-loop Inv-loop μ-loop → tie.Start Inv-loop μ-loop
-start c = c .before .before .before .before .before .before .before .before .before .before .before .before .before .before .before .before .before .before
+start c = c .before .before .before .before .before .before .before .before .before .before .before .before .before .before .before .before .before .before .before
 
 abbrev held : tie.At-loop Inv-loop μ-loop → Record
-held c = recordAt (c .loop .places) (c .loop .count) (c .loop .lo) (c .loop .hi) (c .loop .live) (c .loop .transitions) (c .loop .keys) (c .loop .moved)
+held c = recordAt (c .loop .places) (c .loop .count) (c .loop .lo) (c .loop .hi) (c .loop .live) (c .loop .transitions) (c .loop .keys) (c .loop .moved) (c .loop .given)
 
 slice-aggregate-label-in : tie.Need-slice-aggregate-label-in Inv-loop μ-loop
 slice-aggregate-label-in c = search needs
@@ -51,7 +51,7 @@ label-in-requires c κs =
 
 loop-holds : tie.Need-loop-holds Inv-loop μ-loop
 loop-holds c =
-    let s : tie.Start Inv-loop μ-loop = c .before .before .before .before .before .before .before .before .before .before .before .before .before .before .before .before .before in (
+    let s : tie.Start Inv-loop μ-loop = c .before .before .before .before .before .before .before .before .before .before .before .before .before .before .before .before .before .before in (
       search needs,
       search needs,
       s .pre .1,
@@ -59,7 +59,7 @@ loop-holds c =
       refl,
       refl,
       s .pre .0,
-      c .label-in .ensures,
+      c .before .label-in .ensures,
       upto-none (s .args .sheet .now) (s .args .commands .now) (s .args .r) (s .args .t) (s .args .words .now) (s .args .values .now),
       search needs,
     )
@@ -88,16 +88,16 @@ slice-write-values c = search needs
 
 add-at : tie.Need-add-at Inv-loop μ-loop
 add-at c =
-    let at : tie.At-loop Inv-loop μ-loop = c .before .before .before .before .before .before .before .before .before .before .before .before in
-    let below = c .before .before .before .before .before .before .before .before .before .before .before .loop-test .taken in
+    let at : tie.At-loop Inv-loop μ-loop = c .before .before .before .before .before .before .before .before .before .before .before .before .before in
+    let below = c .before .before .before .before .before .before .before .before .before .before .before .before .loop-test .taken in
     let few = at .loop .inv .9 in
     let here = at .loop .inv .0 in
     record { fits = omega arith }
 
 add-i : tie.Need-add-i Inv-loop μ-loop
 add-i c =
-    let at : tie.At-loop Inv-loop μ-loop = c .before .before .before .before .before .before .before .before .before .before .before .before in
-    let below = c .before .before .before .before .before .before .before .before .before .before .before .loop-test .taken in
+    let at : tie.At-loop Inv-loop μ-loop = c .before .before .before .before .before .before .before .before .before .before .before .before .before in
+    let below = c .before .before .before .before .before .before .before .before .before .before .before .before .loop-test .taken in
     let few = at .loop .inv .9 in
     let here = at .loop .inv .0 in
     record { fits = omega arith }
@@ -107,7 +107,7 @@ loop-less c = search needs
 
 loop-again : tie.Need-loop-again Inv-loop μ-loop
 loop-again c =
-    let d : tie.After-step-in Inv-loop μ-loop = c .before in
+    let d : tie.After-step-in Inv-loop μ-loop = c .before .before in
     let q : tie.After-command-at Inv-loop μ-loop = d .before .before .before .before .before .before .before .before .before in
     let at : tie.At-loop Inv-loop μ-loop = q .before .before in
     let s : tie.Start Inv-loop μ-loop = start at in

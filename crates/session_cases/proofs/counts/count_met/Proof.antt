@@ -8,10 +8,10 @@ use Rattle.session_cases.proofs.counts.count_met.Statement.{statement}
 use Rattle.session_cases.proofs.counts.count_met.Tie as tie
 
 abbrev Inv-loop : tie.InvT-loop
-Inv-loop c₀ met i₀ c i = (i ≤ 7) × (length c ≡ length c₀)
+Inv-loop c₀ met i₀ c i = (i ≤ 9) × (length c ≡ length c₀)
 
 abbrev μ-loop : tie.MeasureT-loop
-μ-loop c₀ met i₀ c i = 7 - i
+μ-loop c₀ met i₀ c i = 9 - i
 
 loop-holds : tie.Need-loop-holds Inv-loop μ-loop
 loop-holds c = search needs
