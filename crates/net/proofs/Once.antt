@@ -2,25 +2,27 @@
 -- Assumes that the net meets the sheet's rules.
 use mathlib.Core.Path.{_≡_, refl, sym, _∙_, ap, subst}
 use mathlib.Core.Logic.{inl, inr}
-use mathlib.Core.Bool.{Bool, true, false, not, _||_}
+use mathlib.Core.Bool.{Bool, true, false, not}
 use mathlib.Core.List.{List, [], _∷_}
 use Prim.Native.Nat.{ℕ, suc, _≤_}
 use native.Mathlib.Omega.{arith}
 use lib.Dec.{eqb, ltb}
-use borrow.Author.Tests.{lt-ltb, ne-eqb, eqb-true, not-false}
+use borrow.Author.Tests.{lt-ltb, ne-eqb, not-false}
 use Rattle.causal.specs.Lists.{Mem}
-use Rattle.causal.proofs.Tests.{both}
+use Rattle.causal.proofs.Lists.{mem-mid}
 use Rattle.net.specs.Tests.{pick}
 use Rattle.net.specs.Net.{Net}
 use Rattle.net.specs.Rules.{netRule}
 use Rattle.net.specs.Checks.{clear}
-use Rattle.net.specs.Journal.{LiveLine, Journal, Reply, Answer, fired, undone, refused, sameKey, isLive, without, kindOf, fireChecks, undoChecks, checks, transitionNamed, keyNamed, newLine, fireReply, undoReply, act, play, answers}
+use Rattle.net.specs.Journal.{LiveLine, Journal, Reply, Answer, fired, undone, refused, key, sameKey, isLive, lineOf, without, kindOf, fireChecks, undoChecks, checks, transitionNamed, keyNamed, newLine, fireReply, undoReply, begin, act, play, answers}
+use Rattle.net.specs.Cases.{netB, fireOf, undoLast}
 use Rattle.net.specs.Claims.{keyFirst, keysFired, rises}
 use Rattle.net.specs.declared.Key.{Key}
 use Rattle.net.proofs.Tests.{pick-case, and-i, or-no-l, or-no-r, any-append}
 use Rattle.net.proofs.Checks.{clear-off}
-use Rattle.net.proofs.Keys.{mem-highest}
-use Rattle.net.proofs.Journal.{Held, checks-kind, act-held}
+use Rattle.net.proofs.Keys.{mem-highest, live-split}
+use Rattle.net.proofs.Journal.{Held, checks-kind, act-held, begin-held}
+use Rattle.net.proofs.Cases.{netB-rule}
 
 -- ---- the keys that are given ascend
 
@@ -60,14 +62,6 @@ without-own k (l ∷ ls) = go (sameKey (l .key) k) refl (without-own k ls)
     go true q e = e
     go false q e = rw (q, e)
 
-live-mem : (k : Key) (ls : List LiveLine) → isLive k ls ≡ true → (l : LiveLine) × Mem l ls × (l .key .0 ≡ k .0)
-live-mem k [] h = both false h refl
-live-mem k (l ∷ ls) h = go (sameKey (l .key) k) refl h (live-mem k ls)
-  where
-    go : (b : Bool) → sameKey (l .key) k ≡ b → (b || isLive k ls) ≡ true → (isLive k ls ≡ true → (x : LiveLine) × Mem x ls × (x .key .0 ≡ k .0)) → (x : LiveLine) × Mem x (l ∷ ls) × (x .key .0 ≡ k .0)
-    go true q e ih = (l, inl refl, eqb-true (l .key .0) (k .0) q)
-    go false q e ih = let (x, m, d) = ih e in (x, inr m, d)
-
 module _ (net : Net) where
   act-gone : (k : Key) (j : Journal) (c : List ℕ) → Gone k j → Gone k (act net j c .journal)
   act-gone k j c (h, low) = pick-case (λ (y : Reply). Gone k (y .journal)) (clear (checks net j c)) _ _ (λ _. done (eqb (kindOf c) 1)) (λ _. (h, low))
@@ -106,8 +100,9 @@ module _ (net : Net) (ok : netRule net ≡ true) where
       done true e a = absurd (subst isUndone (sym a) tt)
       done false e a =
           let same : keyNamed j c ≡ k = ap keyIn a in
-          let (l, m, d) = live-mem (keyNamed j c) (j .lines) (not-false _ (clear-off (undoChecks j (keyNamed j c)) e 19)) in
-          let top = mem-highest (j .lines) l m in
+          let (xs, ys, q, d) = live-split (keyNamed j c) (j .lines) (not-false _ (clear-off (undoChecks j (keyNamed j c)) e 19)) in
+          let l : LiveLine = lineOf (keyNamed j c) (j .lines) in
+          let top = mem-highest (j .lines) l (subst (λ (ls : List LiveLine). Mem l ls) (sym q) (mem-mid l xs ys)) in
           let low = H .top in
           subst (λ (i : Key). Gone i (undoReply net j (keyNamed j c) .journal)) same (without-own (keyNamed j c) (j .lines), omega arith)
 
@@ -115,3 +110,14 @@ module _ (net : Net) (ok : netRule net ≡ true) where
   taken-back k [] j H m = absurd m
   taken-back k (c ∷ cs) j H (inl e) = play-gone net k cs (act net j c .journal) (undone-gone k j c H (sym e))
   taken-back k (c ∷ cs) j H (inr m) = taken-back k cs (act net j c .journal) (act-held net ok j c H) m
+
+-- ---- on sheet B: fired 1, undone 1, fired 2; and 1 is never live again
+
+abbrev again : List (List ℕ)
+again = fireOf 0 ∷ undoLast ∷ fireOf 0 ∷ []
+
+pub again-B : answers netB again (begin netB) ≡ fired (key 1) ∷ undone (key 1) ∷ fired (key 2) ∷ []
+again-B = refl
+
+pub gone-B : (cs : List (List ℕ)) → isLive (key 1) (play netB cs (play netB again (begin netB)) .lines) ≡ false
+gone-B cs = play-gone netB (key 1) cs (play netB again (begin netB)) (taken-back netB netB-rule (key 1) again (begin netB) (begin-held netB netB-rule) (inr (inl refl))) .0
