@@ -1,7 +1,7 @@
 -- The highest key given beside the live ones: the last live key is the highest, and soundness is that of the firings and of the key.
 -- Assumes nothing.
 use mathlib.Core.Path.{_≡_, refl, sym, _∙_, ap, subst}
-use mathlib.Core.Bool.{Bool, true, false, _&&_, and-false}
+use mathlib.Core.Bool.{Bool, true, false, _&&_, and-false, and-assoc}
 use mathlib.Core.List.{List, [], _∷_, _++_}
 use Prim.Native.Nat.{ℕ, zero, suc, _+_, _-_, _<_, _≤_}
 use native.Mathlib.Omega.{arith}
@@ -52,10 +52,6 @@ last-given n f u = go (f .live) u
 
 -- ---- soundness
 
-and-part : (a b c : Bool) → (a && (b && c)) ≡ ((a && b) && c)
-and-part true b c = refl
-and-part false b c = refl
-
 module _ (s : List ℕ) (m : Marking) (f : Firings) (k : Key) where
   abbrev ls : List LiveLine
   ls = linesIn (basesOf s) f
@@ -63,7 +59,7 @@ module _ (s : List ℕ) (m : Marking) (f : Firings) (k : Key) where
   -- the firings', and the key's
   parted : soundIn s m f k ≡ (runsIn s m f && givenInForm (journalIn (basesOf s) m f k))
   unfolding soundIn runsIn
-  parted = and-part (formed (basesOf s) m f) (linesInForm ls && replays (netOf s) (netOf s .start) ls (markingOf (basesOf s) m)) (givenInForm (journalIn (basesOf s) m f k))
+  parted = sym (and-assoc (formed (basesOf s) m f) (linesInForm ls && replays (netOf s) (netOf s .start) ls (markingOf (basesOf s) m)) (givenInForm (journalIn (basesOf s) m f k)))
 
   pub not-run : runsIn s m f ≡ false → soundIn s m f k ≡ false
   not-run h = parted ∙ ap (λ (b : Bool). b && givenInForm (journalIn (basesOf s) m f k)) h
