@@ -39,6 +39,15 @@ fn coupling_step(parts: impl Iterator<Item = u8>, outs: &[Coupling]) -> Step {
     }
 }
 
+/// A step that takes all parts from a place to place 1; these couplings are there before and after.
+fn wide_step(from: u8, kept: &[Coupling]) -> Step {
+    Step {
+        entries: (0..PARTS).map(|part| (part, from, 1)).collect(),
+        ins: kept.to_vec(),
+        outs: kept.to_vec(),
+    }
+}
+
 fn word(n: usize) -> [u8; 2] {
     u16::try_from(n).expect("two bytes").to_le_bytes()
 }
@@ -141,6 +150,15 @@ fn oldest_first(n: usize) -> impl Iterator<Item = Command> {
     (0..).flat_map(round).take(COMMANDS)
 }
 
+/// 256 firings in n equal runs: run i fires step i, and then only step n + i.
+fn out_and_stay(n: usize) -> impl Iterator<Item = Command> {
+    let run = move |i| {
+        let stay = std::iter::repeat(fire(n + i)).take(MOST_LIVE / n - 1);
+        std::iter::once(fire(i)).chain(stay)
+    };
+    (0..n).flat_map(run)
+}
+
 /// 200 firings stand, and everything after them is refused.
 fn refusals() -> impl Iterator<Item = Command> {
     let bad = [
@@ -229,4 +247,24 @@ fn main() {
         &apart,
         filled(MOST_LIVE).chain(again()).take(MOST_LIVE + BLOCKS),
     );
+
+    // Each first firing of a run takes its parts away from their start places, so all 256 have to go for the way back there.
+    let half = PARTS / 2;
+    let parts: Vec<Step> = [0, 1]
+        .iter()
+        .flat_map(|&from| (0..half).map(move |p| plain_step(p, from, 1)))
+        .collect();
+    write(
+        folder,
+        "way_parts",
+        &sheet(&[], &parts),
+        out_and_stay(usize::from(half)),
+    );
+    for (name, start, kept) in [
+        ("way_wide", &[][..], &[][..]),
+        ("way_kept", &all, &all[..255]),
+    ] {
+        let steps = [wide_step(0, kept), wide_step(1, kept)];
+        write(folder, name, &sheet(start, &steps), out_and_stay(1));
+    }
 }

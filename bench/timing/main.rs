@@ -27,6 +27,25 @@ const WHOLE: [(&str, &str); 15] = [
     ("refused", "200 live, then refusals only"),
 ];
 
+/// The way back to the start: an input, what it is, and how often the program is to ask in a run.
+const WAYS: [(&str, &str, usize); 4] = [
+    ("single_before", "nothing has to go", 10),
+    (
+        "way_parts",
+        "all have to go, 32 parts moved eight times each",
+        10,
+    ),
+    ("way_wide", "all have to go, steps of 64 entries", 10),
+    (
+        "way_kept",
+        "all have to go, steps of 64 entries and 255 in-couplings",
+        1,
+    ),
+];
+
+/// How often the timed program asks for the way back where it is told once.
+const WAY_CALLS: usize = 10;
+
 /// The plain program ends in milliseconds, so it runs more often for a steady time.
 const PLAIN_RUNS: usize = 10;
 
@@ -90,20 +109,21 @@ impl Bench {
     }
 
     /// The best time of one way to run the commands of an input.
-    fn alone(&self, program: Program, input: &str) -> Duration {
+    fn alone(&self, program: Program, input: &str, runs: usize) -> Duration {
         let output = self.folder.join("timed.out");
-        let times = (0..PLAIN_RUNS * self.repeats).map(|_| self.once(program, input, &output));
+        let times = (0..runs).map(|_| self.once(program, input, &output));
         times.min().unwrap_or_default()
     }
 
     /// 1,000 commands at 256 live as one block, by `run`, and singly: a table of times alone.
     fn blocks(&self, timed: &Path, single: Duration) {
         let more = self.commands("blocks") - self.commands("single_before");
+        let runs = PLAIN_RUNS * self.repeats;
         let thousand = |way: &str| {
             let words = [way];
             let (whole, before) = (
-                self.alone((timed, &words), "blocks"),
-                self.alone((timed, &words), "single_before"),
+                self.alone((timed, &words), "blocks", runs),
+                self.alone((timed, &words), "single_before", runs),
             );
             micros(whole.saturating_sub(before)) * 1000.0 / more as f64
         };
@@ -118,6 +138,19 @@ impl Bench {
         println!();
         let share = (block - one) / run;
         println!("Less one single call, the block takes {share:.2} times what `run` takes.");
+    }
+
+    /// The way back to the start at 256 live: a table of times alone, less what the firings take.
+    fn ways(&self, timed: &Path) {
+        println!();
+        println!("| the way back at 256 live | µs |");
+        println!("|---|---|");
+        for (input, what, asks) in WAYS {
+            let best = |way| self.alone((timed, &vec![way; asks]), input, asks * self.repeats);
+            let less = best("way").saturating_sub(best("blocks"));
+            let calls = (WAY_CALLS * asks) as f64;
+            println!("| {what} | {:.0} |", micros(less) / calls);
+        }
     }
 
     /// How many commands an input has.
@@ -193,4 +226,5 @@ fn main() {
     );
     println!("and {single} commands less that of the firings alone, divided by {single}.");
     bench.blocks(timed, less.0 / single as u32);
+    bench.ways(timed);
 }

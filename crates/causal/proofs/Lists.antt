@@ -1,4 +1,4 @@
--- Laws of membership and order in a list: an element more, an element less.
+-- Laws of membership and order in a list: either of two lists, an element more, an element less.
 -- Assumes nothing.
 use mathlib.Core.Path.{_≡_, refl, sym, _∙_, ap}
 use mathlib.Core.Logic.{_⊎_, inl, inr, _≢_}
@@ -19,6 +19,15 @@ module _ {X : Type 0} where
   pub mem-mid : (m : X) (xs ys : List X) → Mem m (xs ++ m ∷ ys)
   mem-mid m [] ys = inl refl
   mem-mid m (x ∷ xs) ys = inr (mem-mid m xs ys)
+
+  pub mem-left : (xs ys : List X) (a : X) → Mem a xs → Mem a (xs ++ ys)
+  mem-left [] ys a h = absurd h
+  mem-left (x ∷ xs) ys a (inl e) = inl e
+  mem-left (x ∷ xs) ys a (inr h) = inr (mem-left xs ys a h)
+
+  pub mem-right : (xs ys : List X) (a : X) → Mem a ys → Mem a (xs ++ ys)
+  mem-right [] ys a h = h
+  mem-right (x ∷ xs) ys a h = inr (mem-right xs ys a h)
 
   pub mem-split : (a : X) (xs : List X) → Mem a xs → (ys : List X) × (zs : List X) × (xs ≡ ys ++ a ∷ zs)
   mem-split a [] h = absurd h

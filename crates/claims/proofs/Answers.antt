@@ -15,9 +15,10 @@ use Rattle.tally.specs.Counts.{countedOf}
 use Rattle.tally.specs.declared.Tally.{Tally}
 use Rattle.session.specs.declared.Record.{Record}
 use Rattle.session.specs.Records.{heldIn}
-use Rattle.session.specs.Commands.{refusal, answerNumber, wordOf, outcomeOf, acceptOf, commandChecks, commandOf}
-use Rattle.session.specs.declared.Answer.{Answer}
-use Rattle.session.specs.declared.Answer.the-variants.{Fired, Undone, Refused}
+use Rattle.session.specs.Commands.{refusal, outcomeOf, acceptOf, commandChecks, commandOf}
+use Rattle.commands.specs.Answers.{answerNumber, wordOf}
+use Rattle.commands.specs.declared.Answer.{Answer}
+use Rattle.commands.specs.declared.Answer.the-variants.{Fired, Undone, Refused}
 use Rattle.session.specs.declared.Outcome.{Outcome}
 use Rattle.session.proofs.Steps.{outcome-is}
 use Rattle.session.proofs.Answers.{when, none-first, answer-number}

@@ -1,27 +1,26 @@
 -- Every block: soundness checked once suffices, a block is its commands given singly, and one that is turned away changes nothing.
 -- The premises are met by a block of four commands, the last cut short, on a fresh record of sheet A. Assumes nothing.
-use mathlib.Core.Path.{_≡_, refl, sym, _∙_, ap}
+use mathlib.Core.Path.{_≡_, sym, _∙_, ap}
 use mathlib.Core.Bool.{Bool, true, false, not, _&&_}
 use mathlib.Core.List.{List, [], _∷_, _++_}
 use Prim.Native.Nat.{ℕ, zero, suc, _≤_}
 use native.Mathlib.Omega.{arith}
 use lib.ListN.{length, take, drop}
 use lib.Seq.{sets}
-use borrow.Author.Tests.{not-true, not-false}
+use borrow.Author.Tests.{not-true}
 use Rattle.net.specs.Tests.{pick}
 use Rattle.net.specs.Checks.{Check, check, clear, first}
 use Rattle.net.proofs.Tests.{and-l, and-r}
 use Rattle.net.proofs.Tables.{length-table}
 use Rattle.net.proofs.Checks.{clear-append}
 use Rattle.sheet.specs.Checks.{sheetChecks}
-use Rattle.sheet.specs.Samples.{sheetA}
 use Rattle.sheet.proofs.Accepted.{promised}
 use Rattle.text.proofs.Writes.{sets-front}
 use Rattle.tally.specs.declared.Tally.{Tally}
 use Rattle.command_list.specs.Commands.{howMany, commandAt, commandsIn}
 use Rattle.command_list.specs.Block.{unfitFor}
 use Rattle.session.specs.Records.{soundFor}
-use Rattle.session.specs.Commands.{freshOf, Result, commandOf}
+use Rattle.session.specs.Commands.{Result, commandOf}
 use Rattle.session.specs.Runs.{Session, runOf}
 use Rattle.session.specs.Lists.{wordsOf, valuesOf, ranOf}
 use Rattle.session.specs.Block.{blockChecks, Handed, ranBlock, turnedAway, notRun, blockOf}
@@ -38,7 +37,7 @@ once s a (c ∷ cs) r t h zero = h
 once s a (c ∷ cs) r t h (suc i) =
     let P = promised s a in
     let y : Result = commandOf s r t c in
-    once s a cs (y .outcome .session) (y .tally) (soundness s a (P .rule) (P .bases .1) .stays r t c h) i
+    once s a cs (y .outcome .session) (y .tally) (soundness s a (P .rule) .stays r t c h) i
 
 module _ (s : List ℕ) (r : Record) (t : Tally) (b words values : List ℕ) where
   abbrev all-checks : List Check

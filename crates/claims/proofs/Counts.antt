@@ -8,7 +8,6 @@ use native.Mathlib.Omega.{arith}
 use lib.Dec.{eqb}
 use lib.ListN.{length, length-append}
 use borrow.Author.Tests.{not-false, lt-ltb}
-use Rattle.net.specs.Limits.{maxBases}
 use Rattle.net.specs.Tests.{pick}
 use Rattle.net.specs.Rules.{netRule}
 use Rattle.net.specs.Checks.{clear, first}
@@ -20,14 +19,14 @@ use Rattle.net.proofs.Checks.{clear-off}
 use Rattle.net.proofs.Keys.{Up, live-split, without-split}
 use Rattle.net.proofs.Journal.{Held, checks-kind, act-held, begin-held}
 use Rattle.net.proofs.Totals.{totals}
-use Rattle.format.specs.Parts.{basesOf}
 use Rattle.format.specs.NetOf.{netOf}
 use Rattle.sheet.specs.Checks.{sheetChecks}
 use Rattle.tally.specs.Counts.{maxCount, oneMore, countedOf, zeroTally}
 use Rattle.tally.specs.declared.Tally.{Tally}
 use Rattle.session.specs.Records.{recordOf}
 use Rattle.session.specs.declared.Record.{Record}
-use Rattle.session.specs.Commands.{answerOf, wordOf, commandOf, freshOf}
+use Rattle.session.specs.Commands.{commandOf, freshOf}
+use Rattle.commands.specs.Answers.{answerOf, wordOf}
 use Rattle.session.specs.Runs.{Session, runOf}
 use Rattle.session.specs.declared.Outcome.{Outcome}
 use Rattle.session.proofs.Steps.{step, follows-fresh}
@@ -94,15 +93,15 @@ module _ (net : Net) (j : Journal) (t : Tally) (k : ℕ) (H : Held net j) (A : A
 
 -- ---- a list of commands
 
-module _ (s : List ℕ) (accepted : clear (sheetChecks s) ≡ true) (ok : netRule (netOf s) ≡ true) (few : basesOf s ≤ maxBases) where
+module _ (s : List ℕ) (accepted : clear (sheetChecks s) ≡ true) (ok : netRule (netOf s) ≡ true) where
   -- the tally after a command on the record of a journal
   tally-step : (j : Journal) (t : Tally) (c : List ℕ) → Held (netOf s) j → commandOf s (recordOf j) t c .tally ≡ counted t (act (netOf s) j c)
   unfolding commandOf
-  tally-step j t c H = ap (λ (o : Outcome). countedOf t (wordOf (o .answer))) (step s accepted ok few j c H)
+  tally-step j t c H = ap (λ (o : Outcome). countedOf t (wordOf (o .answer))) (step s accepted j c H)
 
   session-step : (j : Journal) (t : Tally) (c : List ℕ) → Held (netOf s) j → commandOf s (recordOf j) t c .outcome .session ≡ recordOf (act (netOf s) j c .journal)
   unfolding commandOf
-  session-step j t c H = ap (λ (o : Outcome). o .session) (step s accepted ok few j c H)
+  session-step j t c H = ap (λ (o : Outcome). o .session) (step s accepted j c H)
 
   adds-run : (cs : List (List ℕ)) (j : Journal) (t : Tally) (k : ℕ) → Held (netOf s) j → Adds t j k → k + length cs ≤ maxCount
       → Adds (runOf s cs (recordOf j) t .tally) (play (netOf s) cs j) (k + length cs)
@@ -132,5 +131,5 @@ module _ (s : List ℕ) (accepted : clear (sheetChecks s) ≡ true) (ok : netRul
         let A = adds-run cs (begin (netOf s)) zeroTally 0 (begin-held (netOf s) ok) (record { live = refl; all = refl }) (omega arith) in
         let B : Adds (runOf s cs (freshOf s) zeroTally .tally) (play (netOf s) cs (begin (netOf s))) (0 + length cs) = rw fresh-is A in
         B .live ∙ ap (λ (n : ℕ). runOf s cs (freshOf s) zeroTally .tally .undone + n)
-        (sym (live-of (play (netOf s) cs (begin (netOf s)))) ∙ ap (λ (r : Record). r .firings .live) (sym (follows-fresh s accepted ok few cs zeroTally .session)));
+        (sym (live-of (play (netOf s) cs (begin (netOf s)))) ∙ ap (λ (r : Record). r .firings .live) (sym (follows-fresh s accepted cs zeroTally .session)));
   }

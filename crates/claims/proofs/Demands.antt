@@ -11,6 +11,7 @@ use Rattle.claims.proofs.Counts.{session-totals}
 use Rattle.claims.proofs.Published.{demand2-published}
 use Rattle.claims.proofs.Pages.{pages}
 use Rattle.claims.proofs.Blocks.{blocks}
+use Rattle.claims.proofs.WayBack.{ways}
 use Rattle.claims.proofs.Serials.{serials}
 
 pub demands : Demands
@@ -21,10 +22,11 @@ demands = record {
   demand1 = demand1;
   demand2 = demand2;
   published = demand2-published;
-  soundness = λ s accepted. let P = promised s accepted in soundness s accepted (P .rule) (P .bases .1);
-  demand3 = λ s accepted. let P = promised s accepted in demand3 s accepted (P .rule) (P .bases .1);
-  totals = λ s accepted. let P = promised s accepted in session-totals s accepted (P .rule) (P .bases .1);
+  soundness = λ s accepted. soundness s accepted (promised s accepted .rule);
+  demand3 = λ s accepted. demand3 s accepted (promised s accepted .rule);
+  totals = λ s accepted. session-totals s accepted (promised s accepted .rule);
   pages = pages;
-  serials = λ s accepted. let P = promised s accepted in serials s accepted (P .rule) (P .bases .1);
+  serials = λ s accepted. serials s accepted (promised s accepted .rule);
   blocks = blocks;
+  ways = ways;
 }

@@ -1,13 +1,13 @@
 -- Document 01's sheets A and B: the premises of the demands are met. A refused sheet; and three commands on sheet B, one of each
 -- kind, that do what chapter 3 does. Assumes nothing.
-use mathlib.Core.Path.{_≡_, refl, _∙_, ap}
+use mathlib.Core.Path.{_≡_, refl, _∙_, ap, subst}
 use mathlib.Core.Bool.{true}
 use mathlib.Core.List.{List, [], _∷_, _++_, map}
 use Prim.Native.Nat.{ℕ}
 use lib.ListN.{set}
 use Rattle.net.specs.Net.{Net}
 use Rattle.net.specs.Checks.{clear}
-use Rattle.net.specs.Journal.{Journal, transition, begin, act, answers, play}
+use Rattle.net.specs.Journal.{Journal, transition, key, begin, act, answers, play}
 use Rattle.net.specs.Cases.{netB, fireOf, undoLast, undoOf}
 use Rattle.net.proofs.Checks.{clear-append}
 use Rattle.net.specs.declared.Transition.{Transition}
@@ -22,15 +22,21 @@ use Rattle.sheet.proofs.Accepted.{promised}
 use Rattle.sheet.proofs.Samples.{sheetA-accepted, sheetB-accepted, sheetB-net, earlier-step-first}
 use Rattle.command_list.specs.Commands.{commandsIn}
 use Rattle.tally.specs.declared.Tally.{Tally}
+use Rattle.way_back.specs.Ways.{wayBack}
+use Rattle.way_back.specs.Answer.{wayOf, wayChecks}
+use Rattle.way_back.specs.declared.WayBack.{WayBack}
 use Rattle.session.specs.Records.{heldIn, soundFor, Sound}
-use Rattle.session.specs.Commands.{freshOf, zeroRecord, startOf, answerOf, wordOf, valueOf, commandOf}
+use Rattle.session.specs.Commands.{freshOf, zeroRecord, startOf, commandOf}
+use Rattle.commands.specs.Answers.{answerOf, wordOf, valueOf}
 use Rattle.session.specs.Runs.{Answered, answered}
 use Rattle.session.specs.Block.{blockChecks, blockOf}
+use Rattle.session.specs.Ways.{wayBackChecks, wayBackOf}
 use Rattle.session.specs.declared.Record.{Record}
 use Rattle.session.specs.declared.StartAnswer.the-variants.{NotStarted}
 use Rattle.session.proofs.Begins.{fresh-sound}
 use Rattle.claims.specs.Sessions.{sessionAfter}
 use Rattle.claims.specs.Published.{marksIn, historyIn, orderIn, CommandFires, CommandTakesBack, RecordAsPublished, FollowsPublished}
+use Rattle.claims.specs.WayBack.{keysGiven, Smallest}
 use Rattle.claims.specs.Demands.{Demand3}
 use Rattle.claims.proofs.Records.{answer-is}
 use Rattle.claims.proofs.Published.{holds, session-passes}
@@ -71,7 +77,7 @@ pub sound-B : Sound sheetB (freshOf sheetB)
 sound-B = fresh-sound sheetB accepted-B
 
 pub passes-B : (cs : List (List ℕ)) (t : Tally) → soundFor sheetB (sessionAfter sheetB cs t .session) ≡ true
-passes-B cs t = let P = promised sheetB accepted-B in session-passes sheetB accepted-B (P .rule) (P .bases .1) cs t
+passes-B cs t = let P = promised sheetB accepted-B in session-passes sheetB accepted-B (P .rule) cs t
 
 -- ---- M1, M4 and M5 on records: kind 1 fires transition 0; after M4, kind 2 takes back the last firing, and kind 3 that of serial 2
 
@@ -81,8 +87,8 @@ recordB cs t = sessionAfter sheetB cs t .session
 answer-B : (cs : List (List ℕ)) (t : Tally) (c : List ℕ) → commandOf sheetB (recordB cs t) t c .outcome .answer ≡ answerOf (act netB (play netB cs (begin netB)) c .answer)
 answer-B cs t c =
     let P = promised sheetB accepted-B in
-    answer-is sheetB accepted-B (P .rule) (P .bases .1) (recordB cs t) (passes-B cs t) t c
-    ∙ ap (λ (j : Journal). answerOf (act (netOf sheetB) j c .answer)) (holds sheetB accepted-B (P .rule) (P .bases .1) cs t)
+    answer-is sheetB accepted-B (P .rule) (recordB cs t) (passes-B cs t) t c
+    ∙ ap (λ (j : Journal). answerOf (act (netOf sheetB) j c .answer)) (holds sheetB accepted-B (P .rule) cs t)
     ∙ ap (λ (n : Net). answerOf (act n (play n cs (begin n)) c .answer)) sheetB-net
 
 shown : (cs : List (List ℕ)) (t : Tally) → RecordAsPublished sheetB (recordB cs t) (orderIn sheetB cs)
@@ -131,3 +137,28 @@ pub block-values : (t : Tally) → blockOf sheetB (freshOf sheetB) t block nines
 block-values t =
     demands .blocks sheetB (freshOf sheetB) t block nines nines .singly block-passes .values-are
     ∙ ap (λ (l : List Answered). map (λ (a : Answered). valueOf (a .answer) (a .key)) l ++ (9 ∷ [])) (block-answers t)
+
+-- ---- T-04: after M4 on sheet B, base 0 wanted at place 1, the others anywhere: firing 2 alone has to go
+
+abbrev wanted : List ℕ
+wanted = 1 ∷ 255 ∷ 255 ∷ 255 ∷ []
+
+held-B : (t : Tally) → heldIn sheetB (recordB firings t) ≡ play (netOf sheetB) firings (begin (netOf sheetB))
+held-B t = holds sheetB accepted-B (promised sheetB accepted-B .rule) firings t
+
+way-passes : (t : Tally) → clear (wayBackChecks sheetB (recordB firings t) wanted) ≡ true
+way-passes t =
+    let own : clear (wayChecks (netOf sheetB) wanted (heldIn sheetB (recordB firings t))) ≡ true =
+    ap (λ (j : Journal). clear (wayChecks (netOf sheetB) wanted j)) (held-B t) ∙ ap (λ (n : Net). clear (wayChecks n wanted (play n firings (begin n)))) sheetB-net in
+    clear-append (sheetChecks sheetB) _ ∙ rw (accepted-B, passes-B firings t) own
+
+way-given : (t : Tally) → wayBackOf sheetB (recordB firings t) wanted ≡ wayOf (key 2 ∷ [])
+unfolding wayBackOf
+way-given t =
+    rw (way-passes t)
+    (ap wayOf (ap (wayBack (netOf sheetB) wanted) (held-B t) ∙ ap (λ (n : Net). wayBack n wanted (play n firings (begin n))) sheetB-net))
+
+pub way-B : (t : Tally) → Smallest sheetB (recordB firings t) t wanted (key 2 ∷ [])
+way-B t =
+    subst (λ (y : WayBack). Smallest sheetB (recordB firings t) t wanted (keysGiven y)) (way-given t)
+    (demands .ways sheetB (recordB firings t) wanted t .found (ap (λ (y : WayBack). y .answer) (way-given t)))

@@ -9,5 +9,6 @@ pub mod Published
 pub mod Pages
 pub mod Blocks
 pub mod Serials
+pub mod WayBack
 pub mod Demands
 pub mod Instances

@@ -9,7 +9,6 @@ use lib.Dec.{eqb}
 use borrow.Author.Tests.{eqb-true, not-false}
 use Rattle.causal.specs.Lists.{Mem}
 use Rattle.causal.proofs.Tests.{both}
-use Rattle.net.specs.Limits.{maxBases}
 use Rattle.net.specs.Tests.{pick}
 use Rattle.net.specs.Rules.{netRule}
 use Rattle.net.specs.Checks.{clear, first}
@@ -32,18 +31,18 @@ use Rattle.published.proofs.FiredKeys.{fired-keys}
 use Rattle.published.proofs.Order.{Agrees, order-is}
 use Rattle.published.proofs.LineOrder.{lines-order}
 use Rattle.published.proofs.Claims.{as-published, published}
-use Rattle.format.specs.Parts.{basesOf}
 use Rattle.format.specs.NetOf.{netOf}
 use Rattle.sheet.specs.Checks.{sheetChecks}
 use Rattle.sheet.proofs.Accepted.{promised}
 use Rattle.tally.specs.declared.Tally.{Tally}
 use Rattle.session.specs.Records.{heldIn, soundFor}
-use Rattle.session.specs.Commands.{freshOf, answerOf, keyOf, commandOf}
+use Rattle.session.specs.Commands.{freshOf, commandOf}
+use Rattle.commands.specs.Answers.{answerOf, keyOf}
 use Rattle.session.specs.Runs.{Answered, answered}
 use Rattle.session.specs.declared.Record.{Record}
-use Rattle.session.specs.declared.Answer.{Answer}
-use Rattle.session.specs.declared.Answer.the-variants.{Fired, Undone, Refused}
-use Rattle.session.proofs.Steps.{held-back, held-soundFor, follows-fresh}
+use Rattle.commands.specs.declared.Answer.{Answer}
+use Rattle.commands.specs.declared.Answer.the-variants.{Fired, Undone, Refused}
+use Rattle.session.proofs.Steps.{held-back, held-sound, follows-fresh}
 use Rattle.claims.specs.Sessions.{sessionAfter}
 use Rattle.claims.specs.Published.{marksIn, historyIn, givenIn, firedAs, answeredAndZero, orderIn, recordAfter, CommandFires, CommandTakesBack, RecordAsPublished, RecordKeysAsPublished, FollowsPublished, Demand2Published}
 use Rattle.claims.proofs.Records.{passes-held, answer-is, key-is, journal-is}
@@ -143,23 +142,22 @@ module _ (s : List ℕ) (j : Journal) (c : List ℕ) where
 
 -- ---- a record that passes the test
 
-module _ (s : List ℕ) (accepted : clear (sheetChecks s) ≡ true) (ok : netRule (netOf s) ≡ true) (few : basesOf s ≤ maxBases)
-    (r : Record) (passes : soundFor s r ≡ true) where
+module _ (s : List ℕ) (accepted : clear (sheetChecks s) ≡ true) (ok : netRule (netOf s) ≡ true) (r : Record) (passes : soundFor s r ≡ true) where
   abbrev j : Journal
   j = heldIn s r
 
   H : Held (netOf s) (heldIn s r)
-  H = passes-held s accepted ok few r passes
+  H = passes-held s accepted ok r passes
 
   answers-as : (t : Tally) (c : List ℕ) → commandOf s r t c .outcome .answer ≡ answerOf (act (netOf s) (heldIn s r) c .answer)
-  answers-as = answer-is s accepted ok few r passes
+  answers-as = answer-is s accepted ok r passes
 
   -- what the record holds after a command, and its key, by the journal's reply
   journal-by : (t : Tally) (c : List ℕ) (y : Reply) → act (netOf s) j c ≡ y → heldIn s (commandOf s r t c .outcome .session) ≡ y .journal
-  journal-by t c y e = journal-is s accepted ok few r passes t c ∙ ap (λ (x : Reply). x .journal) e
+  journal-by t c y e = journal-is s accepted ok r passes t c ∙ ap (λ (x : Reply). x .journal) e
 
   key-by : (t : Tally) (c : List ℕ) (y : Reply) → act (netOf s) j c ≡ y → keyOf (y .answer) ≡ commandOf s r t c .outcome .key
-  key-by t c y e = sym (key-is s accepted ok few r passes t c ∙ ap (λ (x : Reply). keyOf (x .answer)) e)
+  key-by t c y e = sym (key-is s accepted ok r passes t c ∙ ap (λ (x : Reply). keyOf (x .answer)) e)
 
   -- a command that is answered Fired is the journal's firing
   was-firing : (t : Tally) (c : List ℕ) → commandOf s r t c .outcome .answer ≡ Fired → act (netOf s) j c ≡ fireReply (netOf s) j (transitionNamed c)
@@ -269,17 +267,17 @@ module _ (s : List ℕ) (accepted : clear (sheetChecks s) ≡ true) (ok : netRul
 
 -- ---- sessions, and sound records
 
-module _ (s : List ℕ) (accepted : clear (sheetChecks s) ≡ true) (ok : netRule (netOf s) ≡ true) (few : basesOf s ≤ maxBases) where
+module _ (s : List ℕ) (accepted : clear (sheetChecks s) ≡ true) (ok : netRule (netOf s) ≡ true) where
   -- a session's record holds the journal, and passes the test
   pub holds : (cs : List (List ℕ)) (t : Tally) → heldIn s (sessionAfter s cs t .session) ≡ play (netOf s) cs (begin (netOf s))
-  holds cs t = ap (heldIn s) (follows-fresh s accepted ok few cs t .session) ∙ held-back s accepted ok few (play (netOf s) cs (begin (netOf s))) (played (netOf s) ok cs)
+  holds cs t = ap (heldIn s) (follows-fresh s accepted cs t .session) ∙ held-back s accepted (play (netOf s) cs (begin (netOf s))) (played (netOf s) ok cs)
 
   pub session-passes : (cs : List (List ℕ)) (t : Tally) → soundFor s (sessionAfter s cs t .session) ≡ true
-  session-passes cs t = ap (soundFor s) (follows-fresh s accepted ok few cs t .session) ∙ held-soundFor s accepted ok few (play (netOf s) cs (begin (netOf s))) (played (netOf s) ok cs)
+  session-passes cs t = ap (soundFor s) (follows-fresh s accepted cs t .session) ∙ held-sound s accepted (play (netOf s) cs (begin (netOf s))) (played (netOf s) ok cs) .sound
 
   fresh-holds : heldIn s (freshOf s) ≡ begin (netOf s)
   unfolding freshOf
-  fresh-holds = held-back s accepted ok few (begin (netOf s)) (begin-held (netOf s) ok)
+  fresh-holds = held-back s accepted (begin (netOf s)) (begin-held (netOf s) ok)
 
   pub follows-published : FollowsPublished s
   follows-published =
@@ -289,15 +287,15 @@ module _ (s : List ℕ) (accepted : clear (sheetChecks s) ≡ true) (ok : netRul
         wellFormed = N .wellFormed;
         byCases = N .byCases;
         initial = subst⁻¹ (λ (x : Journal). P.Initial (netOf s) (marksOf (netOf s) (x .marking)) (historyOf x)) fresh-holds (N .initial);
-        sessions = λ _ cs t. record-published s accepted ok few (sessionAfter s cs t .session) (session-passes cs t) (orderIn s cs)
+        sessions = λ _ cs t. record-published s accepted ok (sessionAfter s cs t .session) (session-passes cs t) (orderIn s cs)
             (subst⁻¹ (λ (x : Journal). Agrees x (orderIn s cs)) (holds cs t) (order-is (netOf s) ok cs));
-        sound = λ _ r h. record-published s accepted ok few r h (orderOfLines (netOf s) (heldIn s r .lines)) (lines-order (netOf s) ok (heldIn s r) (passes-held s accepted ok few r h));
-        keys = λ cs t. keys-held s accepted ok few (sessionAfter s cs t .session) (session-passes cs t);
-        soundKeys = λ r h. keys-held s accepted ok few r h;
+        sound = λ _ r h. record-published s accepted ok r h (orderOfLines (netOf s) (heldIn s r .lines)) (lines-order (netOf s) ok (heldIn s r) (passes-held s accepted ok r h));
+        keys = λ cs t. keys-held s accepted ok (sessionAfter s cs t .session) (session-passes cs t);
+        soundKeys = λ r h. keys-held s accepted ok r h;
         given = λ cs t. subst⁻¹ (λ (x : Journal). Max (answeredAndZero (sessionAfter s cs t .answers)) (lastGiven x .0)) (holds cs t)
-            (subst⁻¹ (λ (rs : List Answered). Max (answeredAndZero rs) (lastGiven (play (netOf s) cs (begin (netOf s))) .0)) (follows-fresh s accepted ok few cs t .answers)
+            (subst⁻¹ (λ (rs : List Answered). Max (answeredAndZero rs) (lastGiven (play (netOf s) cs (begin (netOf s))) .0)) (follows-fresh s accepted cs t .answers)
             (highest-answered (answers (netOf s) cs (begin (netOf s))) (lastGiven (play (netOf s) cs (begin (netOf s))) .0) (N .given cs)));
       }
 
 pub demand2-published : Demand2Published
-demand2-published s accepted = let P = promised s accepted in follows-published s accepted (P .rule) (P .bases .1)
+demand2-published s accepted = follows-published s accepted (promised s accepted .rule)

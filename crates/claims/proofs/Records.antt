@@ -3,34 +3,30 @@
 use mathlib.Core.Path.{_≡_, refl, _∙_, ap, subst}
 use mathlib.Core.Bool.{Bool, true, false}
 use mathlib.Core.List.{List}
-use Prim.Native.Nat.{ℕ, _≤_}
+use Prim.Native.Nat.{ℕ}
 use lib.Dec.{eqb}
-use Rattle.net.specs.Limits.{maxBases}
 use Rattle.net.specs.Tests.{pick}
 use Rattle.net.specs.Rules.{netRule}
 use Rattle.net.specs.Checks.{clear, first}
 use Rattle.net.specs.Journal.{Journal, Reply, kindOf, transitionNamed, keyNamed, checks, fireReply, undoReply, refuse, begin, act}
-use Rattle.net.proofs.Tests.{and-r}
 use Rattle.net.proofs.Journal.{Held, act-held, begin-held}
-use Rattle.net.proofs.History.{sound-held}
-use Rattle.format.specs.Parts.{basesOf}
 use Rattle.format.specs.NetOf.{netOf}
 use Rattle.sheet.specs.Checks.{sheetChecks}
-use Rattle.sound.specs.Soundness.{formed, soundIn}
+use Rattle.sound.proofs.Holds.{sound-journal}
 use Rattle.tally.specs.declared.Tally.{Tally}
 use Rattle.session.specs.Records.{heldIn, soundFor}
-use Rattle.session.specs.Commands.{freshOf, refusal, answerOf, keyOf, acceptOf, performOf, commandOf}
+use Rattle.session.specs.Commands.{freshOf, refusal, acceptOf, performOf, commandOf}
+use Rattle.commands.specs.Answers.{answerOf, keyOf}
 use Rattle.session.specs.declared.Record.{Record}
 use Rattle.session.specs.declared.Outcome.{Outcome}
-use Rattle.session.proofs.Steps.{sound-performs, outcome-is, held-back, held-soundFor}
+use Rattle.session.proofs.Steps.{sound-performs, outcome-is, held-back, held-sound}
 use Rattle.claims.specs.Demands.{Soundness}
 use Rattle.claims.proofs.Sessions.{held-runs}
 
-module _ (s : List ℕ) (accepted : clear (sheetChecks s) ≡ true) (ok : netRule (netOf s) ≡ true) (few : basesOf s ≤ maxBases) where
+module _ (s : List ℕ) (accepted : clear (sheetChecks s) ≡ true) (ok : netRule (netOf s) ≡ true) where
   module _ (r : Record) (passes : soundFor s r ≡ true) where
     pub passes-held : Held (netOf s) (heldIn s r)
-    unfolding soundIn
-    passes-held = sound-held (netOf s) (heldIn s r) (and-r (formed (basesOf s) (r .marking) (r .firings)) _ passes)
+    passes-held = sound-journal s (r .marking) (r .firings) (r .given) passes
 
     abbrev j : Journal
     j = heldIn s r
@@ -68,19 +64,19 @@ module _ (s : List ℕ) (accepted : clear (sheetChecks s) ≡ true) (ok : netRul
     journal-is t c = ap (λ (o : Outcome). heldIn s (o .session)) (performs t c) ∙ go (clear (checks (netOf s) j c)) refl
       where
         go : (b : Bool) → clear (checks (netOf s) j c) ≡ b → heldIn s (given c b .session) ≡ reply c b .journal
-        go true e = held-back s accepted ok few (reply c true .journal) (replied-held c e)
+        go true e = held-back s accepted (reply c true .journal) (replied-held c e)
         go false e = refl
 
     pub passes-after : (t : Tally) (c : List ℕ) → soundFor s (commandOf s r t c .outcome .session) ≡ true
     passes-after t c = ap (λ (o : Outcome). soundFor s (o .session)) (performs t c) ∙ go (clear (checks (netOf s) j c)) refl
       where
         go : (b : Bool) → clear (checks (netOf s) j c) ≡ b → soundFor s (given c b .session) ≡ true
-        go true e = held-soundFor s accepted ok few (reply c true .journal) (replied-held c e)
+        go true e = held-sound s accepted (reply c true .journal) (replied-held c e) .sound
         go false e = passes
 
   fresh-passes : soundFor s (freshOf s) ≡ true
   unfolding freshOf
-  fresh-passes = held-soundFor s accepted ok few (begin (netOf s)) (begin-held (netOf s) ok)
+  fresh-passes = held-sound s accepted (begin (netOf s)) (begin-held (netOf s) ok) .sound
 
   pub soundness : Soundness s
-  soundness = record { fresh = fresh-passes; stays = λ r t c h. passes-after r h t c; forward = λ r h t. held-runs s accepted ok few (heldIn s r) (passes-held r h) t }
+  soundness = record { fresh = fresh-passes; stays = λ r t c h. passes-after r h t c; forward = λ r h t. held-runs s accepted ok (heldIn s r) (passes-held r h) t }

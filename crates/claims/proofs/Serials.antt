@@ -4,10 +4,9 @@ use mathlib.Core.Path.{_≡_, refl, _∙_, ap, subst}
 use mathlib.Core.Logic.{inl, inr}
 use mathlib.Core.Bool.{true}
 use mathlib.Core.List.{List, [], _∷_, _++_, map}
-use Prim.Native.Nat.{ℕ, _≤_}
+use Prim.Native.Nat.{ℕ}
 use native.Mathlib.Omega.{arith}
 use Rattle.causal.specs.Lists.{Mem}
-use Rattle.net.specs.Limits.{maxBases}
 use Rattle.net.specs.Checks.{clear}
 use Rattle.net.specs.Net.{Net}
 use Rattle.net.specs.Rules.{netRule}
@@ -17,11 +16,10 @@ use Rattle.net.specs.Claims.{keysFired, rises}
 use Rattle.net.specs.declared.Key.{Key}
 use Rattle.net.proofs.Journal.{begin-held}
 use Rattle.net.proofs.Once.{Gone, fired-rise, play-gone, taken-back}
-use Rattle.format.specs.Parts.{basesOf}
 use Rattle.format.specs.NetOf.{netOf}
 use Rattle.sheet.specs.Checks.{sheetChecks}
 use Rattle.tally.specs.declared.Tally.{Tally}
-use Rattle.session.specs.Commands.{wordOf}
+use Rattle.commands.specs.Answers.{wordOf}
 use Rattle.session.specs.Runs.{Answered, answered}
 use Rattle.session.proofs.Steps.{follows-fresh}
 use Rattle.claims.specs.Serials.{serialsFired, tookBack, Serials}
@@ -38,7 +36,7 @@ same-serials (J.refused n ∷ l) = same-serials l
 word-of : {a b : Answered} → a ≡ b → wordOf (a .answer) ≡ wordOf (b .answer)
 word-of e = ap (λ (x : Answered). wordOf (x .answer)) e
 
-heard : (a : J.Answer) (k : Key) → tookBack k ≡ answered a → J.undone k ≡ a
+pub heard : (a : J.Answer) (k : Key) → tookBack k ≡ answered a → J.undone k ≡ a
 heard (J.fired i) k e = absurd (let q = word-of e in let z : ⊥ = omega arith in z)
 heard (J.undone i) k e = ap (λ (x : Answered). J.undone (x .key)) e
 heard (J.refused n) k e = absurd (let q = word-of e in let z : ⊥ = omega arith in z)
@@ -54,15 +52,15 @@ play-append : (net : Net) (cs ds : List (List ℕ)) (j : Journal) → play net (
 play-append net [] ds j = refl
 play-append net (c ∷ cs) ds j = play-append net cs ds (act net j c .journal)
 
-module _ (s : List ℕ) (accepted : clear (sheetChecks s) ≡ true) (ok : netRule (netOf s) ≡ true) (few : basesOf s ≤ maxBases) where
+module _ (s : List ℕ) (accepted : clear (sheetChecks s) ≡ true) (ok : netRule (netOf s) ≡ true) where
   pub serials : (cs : List (List ℕ)) (t : Tally) → Serials s cs t
   serials cs t =
-      let y = follows-fresh s accepted ok few cs t .answers in
+      let y = follows-fresh s accepted cs t .answers in
       record {
         once = ap (λ (l : List Answered). rises 0 (serialsFired l)) y ∙ ap (rises 0) (same-serials (answers (netOf s) cs (begin (netOf s)))) ∙ fired-rise (netOf s) cs (begin (netOf s));
         gone = λ ds k m.
             let n : Mem (J.undone k) (answers (netOf s) cs (begin (netOf s))) = mem-heard (answers (netOf s) cs (begin (netOf s))) k (subst (λ (l : List Answered). Mem (tookBack k) l) y m) in
             let g : Gone k (play (netOf s) cs (begin (netOf s))) = taken-back (netOf s) ok k cs (begin (netOf s)) (begin-held (netOf s) ok) n in
-            ap (λ (j : Journal). isLive k (j .lines)) (holds s accepted ok few (cs ++ ds) t ∙ play-append (netOf s) cs ds (begin (netOf s)))
+            ap (λ (j : Journal). isLive k (j .lines)) (holds s accepted ok (cs ++ ds) t ∙ play-append (netOf s) cs ds (begin (netOf s)))
             ∙ play-gone (netOf s) k ds (play (netOf s) cs (begin (netOf s))) g .0;
       }

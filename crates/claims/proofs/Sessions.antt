@@ -3,9 +3,8 @@
 use mathlib.Core.Path.{_≡_, _∙_, ap}
 use mathlib.Core.Bool.{true}
 use mathlib.Core.List.{List, map}
-use Prim.Native.Nat.{ℕ, _≤_}
+use Prim.Native.Nat.{ℕ}
 use Rattle.causal.proofs.Reorderings.{reordering-same}
-use Rattle.net.specs.Limits.{maxBases}
 use Rattle.net.specs.Rules.{netRule}
 use Rattle.net.specs.Checks.{clear}
 use Rattle.net.specs.Firing.{inSet}
@@ -18,7 +17,6 @@ use Rattle.net.proofs.Journal.{Held}
 use Rattle.net.proofs.History.{journal-sound}
 use Rattle.net.proofs.Claimed.{Forward}
 use Rattle.net.proofs.Demand3 as N′
-use Rattle.format.specs.Parts.{basesOf}
 use Rattle.format.specs.NetOf.{netOf}
 use Rattle.sheet.specs.Checks.{sheetChecks}
 use Rattle.tally.specs.declared.Tally.{Tally}
@@ -28,11 +26,11 @@ use Rattle.session.proofs.Steps.{follows-fresh}
 use Rattle.claims.specs.Sessions.{journalAfter}
 use Rattle.claims.specs.Demands.{ForwardRun, Demand3}
 
-module _ (s : List ℕ) (accepted : clear (sheetChecks s) ≡ true) (ok : netRule (netOf s) ≡ true) (few : basesOf s ≤ maxBases) where
+module _ (s : List ℕ) (accepted : clear (sheetChecks s) ≡ true) (ok : netRule (netOf s) ≡ true) where
   -- a forward run of the journal is one of the record
   forward : (ls : List LiveLine) (z : _) → Forward (netOf s) ls z → (t : Tally) → ForwardRun s ls z t
   forward ls z F t =
-      let y = follows-fresh s accepted ok few (fireCommands ls) t in
+      let y = follows-fresh s accepted (fireCommands ls) t in
       record { fired = y .answers ∙ ap (map answered) (F .answer); session = y .session ∙ ap recordOf (F .journal); journal = F .journal }
 
   -- what holds of a journal's lines runs forward
@@ -41,7 +39,7 @@ module _ (s : List ℕ) (accepted : clear (sheetChecks s) ≡ true) (ok : netRul
 
   pub demand3 : (cs : List (List ℕ)) (t : Tally) → Demand3 s cs t
   demand3 cs t =
-      let y = follows-fresh s accepted ok few cs t in
+      let y = follows-fresh s accepted cs t in
       let D = N′.demand3 (netOf s) ok cs in
       record {
         session = y .session;

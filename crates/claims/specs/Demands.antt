@@ -27,16 +27,18 @@ use Rattle.tally.specs.Counts.{maxCount, oneMore, zeroTally}
 use Rattle.tally.specs.declared.Tally.{Tally}
 use Rattle.session.specs.declared.Record.{Record}
 use Rattle.session.specs.Records.{heldIn, recordOf, soundFor}
-use Rattle.session.specs.Commands.{freshOf, zeroRecord, startOf, startNumber, refusal, answerNumber, outcomeOf, commandChecks, commandOf}
+use Rattle.session.specs.Commands.{freshOf, zeroRecord, startOf, startNumber, refusal, outcomeOf, commandChecks, commandOf}
+use Rattle.commands.specs.Answers.{answerNumber}
 use Rattle.session.specs.Runs.{answered}
 use Rattle.session.specs.declared.StartAnswer.the-variants.{Started, NotStarted}
-use Rattle.session.specs.declared.Answer.the-variants.{Refused}
+use Rattle.commands.specs.declared.Answer.the-variants.{Refused}
 use Rattle.claims.specs.Sessions.{journalAfter, sessionAfter}
 use Rattle.firings.specs.declared.Firing.{Firing}
 use Rattle.claims.specs.Published.{Demand2Published}
 use Rattle.claims.specs.Pages.{Pages}
 use Rattle.claims.specs.Blocks.{Blocks}
 use Rattle.claims.specs.Serials.{Serials}
+use Rattle.claims.specs.WayBack.{Ways}
 
 -- ---- What the definitions of firing rest on
 
@@ -150,3 +152,4 @@ pub record Demands : Type 0 where
   pub pages : (fs : List Firing) → Pages fs
   pub serials : (s : List ℕ) → clear (sheetChecks s) ≡ true → (cs : List (List ℕ)) (t : Tally) → Serials s cs t
   pub blocks : (s : List ℕ) (r : Record) (t : Tally) (b words values : List ℕ) → Blocks s r t b words values
+  pub ways : (s : List ℕ) (r : Record) (w : List ℕ) (t : Tally) → Ways s r w t

@@ -4,4 +4,5 @@ pub mod Published
 pub mod Pages
 pub mod Blocks
 pub mod Serials
+pub mod WayBack
 pub mod Demands

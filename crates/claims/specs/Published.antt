@@ -30,7 +30,7 @@ use Rattle.session.specs.declared.Record.{Record}
 use Rattle.session.specs.Records.{heldIn, soundFor}
 use Rattle.session.specs.Commands.{freshOf, commandOf}
 use Rattle.session.specs.Runs.{Answered}
-use Rattle.session.specs.declared.Answer.the-variants.{Fired, Undone}
+use Rattle.commands.specs.declared.Answer.the-variants.{Fired, Undone}
 use Rattle.claims.specs.Sessions.{sessionAfter}
 
 -- ---- The state that a record holds

@@ -12,9 +12,9 @@ use Rattle.net.specs.Claims.{rises}
 use Rattle.net.specs.declared.Key.{Key}
 use Rattle.tally.specs.declared.Tally.{Tally}
 use Rattle.session.specs.Records.{heldIn}
-use Rattle.session.specs.Commands.{wordOf}
+use Rattle.commands.specs.Answers.{wordOf}
 use Rattle.session.specs.Runs.{Answered}
-use Rattle.session.specs.declared.Answer.the-variants.{Undone}
+use Rattle.commands.specs.declared.Answer.the-variants.{Undone}
 use Rattle.claims.specs.Sessions.{sessionAfter}
 
 -- the serials of the answers `fired`, in their order

@@ -1,6 +1,6 @@
 -- Taking out a transition's new bonds one after the other keeps what is not new.
 -- Assumes nothing.
-use mathlib.Core.Path.{_≡_, refl, sym, _∙_, ap, subst, fun-ext}
+use mathlib.Core.Path.{_≡_, refl, sym, _∙_, ap, subst}
 use mathlib.Core.Bool.{Bool, true, false, not, _&&_, _||_}
 use mathlib.Core.List.{List, [], _∷_}
 use Prim.Native.Nat.{ℕ, _+_, _≤_}
@@ -10,6 +10,7 @@ use Rattle.net.specs.Limits.{maxBonds}
 use Rattle.net.specs.Tests.{pick, keep, table}
 use Rattle.net.specs.Net.{Arcs, sameBond, lessBond, hasBond}
 use Rattle.net.specs.declared.Bond.{Bond}
+use Rattle.net.proofs.Tests.{keep-cong, keep-yes, keep-keep}
 use Rattle.net.proofs.Tables.{length-table}
 use Rattle.net.proofs.Sorted.{ascending-keep}
 use Rattle.net.proofs.Bonds.{bond-order, bond-eq}
@@ -22,31 +23,13 @@ use Rattle.engine.specs.Change.{stays}
 
 -- ---- `keep`
 
-module _ {X : Type 0} where
-  keep-cong : (f g : X → Bool) (l : List X) → ((x : X) → f x ≡ g x) → keep f l ≡ keep g l
-  keep-cong f g l h = ap (λ (t : X → Bool). keep t l) (fun-ext h)
-
-  keep-yes : (l : List X) → keep (λ x. true) l ≡ l
-  keep-yes [] = refl
-  keep-yes (x ∷ l) = ap (λ (k : List X). x ∷ k) (keep-yes l)
-
-  keep-keep : (f g : X → Bool) (l : List X) → keep g (keep f l) ≡ keep (λ x. f x && g x) l
-  keep-keep f g [] = refl
-  keep-keep f g (x ∷ l) = go (f x) (g x) refl (keep-keep f g l)
-    where
-      go : (a b : Bool) → g x ≡ b → keep g (keep f l) ≡ keep (λ y. f y && g y) l
-          → keep g (pick a (x ∷ keep f l) (keep f l)) ≡ pick (a && b) (x ∷ keep (λ y. f y && g y) l) (keep (λ y. f y && g y) l)
-      go true true e ih = rw e (ap (λ (k : List X). x ∷ k) ih)
-      go true false e ih = rw e ih
-      go false b e ih = ih
-
-  keep-length : (f : X → Bool) (l : List X) → length (keep f l) ≤ length l
-  keep-length f [] = omega arith
-  keep-length f (x ∷ l) = go (f x) (keep-length f l)
-    where
-      go : (a : Bool) → length (keep f l) ≤ length l → length (pick a (x ∷ keep f l) (keep f l)) ≤ length (x ∷ l)
-      go true h = omega arith
-      go false h = omega arith
+keep-length : {X : Type 0} (f : X → Bool) (l : List X) → length (keep f l) ≤ length l
+keep-length f [] = omega arith
+keep-length f (x ∷ l) = go (f x) (keep-length f l)
+  where
+    go : (a : Bool) → length (keep f l) ≤ length l → length (pick a (x ∷ keep f l) (keep f l)) ≤ length (x ∷ l)
+    go true h = omega arith
+    go false h = omega arith
 
 -- ---- one bond
 
@@ -56,14 +39,14 @@ module _ (t : Arcs) (b : Bond) where
 
   -- an in-bond is not taken out
   pub stays-in : (l : List Bond) → hasBond b (t .inBonds) ≡ true → keep (stays t b) l ≡ l
-  stays-in l h = keep-cong (stays t b) (λ c. true) l (λ c. go c (sameBond c b) refl) ∙ keep-yes l
+  stays-in l h = keep-cong (stays t b) (λ c. true) l (λ c _. go c (sameBond c b) refl) ∙ keep-yes l
     where
       go : (c : Bond) (x : Bool) → sameBond c b ≡ x → not (x && not (hasBond c (t .inBonds))) ≡ true
       go c true e = rw (same-in c e, h)
       go c false e = refl
 
   pub stays-out : (l : List Bond) → hasBond b (t .inBonds) ≡ false → keep (stays t b) l ≡ keep (λ (c : Bond). not (sameBond c b)) l
-  stays-out l h = keep-cong (stays t b) (λ (c : Bond). not (sameBond c b)) l (λ c. go c (sameBond c b) refl)
+  stays-out l h = keep-cong (stays t b) (λ (c : Bond). not (sameBond c b)) l (λ c _. go c (sameBond c b) refl)
     where
       go : (c : Bond) (x : Bool) → sameBond c b ≡ x → not (x && not (hasBond c (t .inBonds))) ≡ not x
       go c true e = rw (same-in c e, h)
@@ -100,7 +83,7 @@ module _ (t : Arcs) (m : Marking) (I : InOrder m) (f : ℕ → Bond) where
   left-more : (i : ℕ) → keep (stays t (f i)) (left i) ≡ left (i + 1)
   left-more i = keep-keep (λ (c : Bond). not (hasBond c (table i f) && not (hasBond c (t .inBonds)))) (stays t (f i)) (bondsOf m)
       ∙ keep-cong (λ (c : Bond). not (hasBond c (table i f) && not (hasBond c (t .inBonds))) && stays t (f i) c) (λ (c : Bond). not (hasBond c (table (i + 1) f) && not (hasBond c (t .inBonds)))) (bondsOf m)
-      (λ c. both-stay (hasBond c (table i f)) (sameBond c (f i)) (hasBond c (t .inBonds)) ∙ ap (λ (x : Bool). not (x && not (hasBond c (t .inBonds)))) (sym (has-more sameBond c i f)))
+      (λ c _. both-stay (hasBond c (table i f)) (sameBond c (f i)) (hasBond c (t .inBonds)) ∙ ap (λ (x : Bool). not (x && not (hasBond c (t .inBonds)))) (sym (has-more sameBond c i f)))
 
   module _ (i : ℕ) (h : Marking) (q : h ≡ withBonds m (left i)) where
     pub take-asks : InOrder h

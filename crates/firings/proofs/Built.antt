@@ -35,7 +35,7 @@ packed-pad [] k = packed-none k
 packed-pad (b ∷ l) k = ap (λ (x : ℕ). x * 2 + pick b 1 0) (packed-pad l k)
 
 -- the set of all bits: none above the bases is in it
-set-wide : (N : ℕ) (l : List Bool) → length l ≤ N → setOf N (packed l) ≡ l ++ replicate (N - length l) false
+pub set-wide : (N : ℕ) (l : List Bool) → length l ≤ N → setOf N (packed l) ≡ l ++ replicate (N - length l) false
 set-wide N l h =
     let m : List Bool = l ++ replicate (N - length l) false in
     let size : N ≡ length m = (let a = length-append l (replicate (N - length l) false) in let b = length-replicate (N - length l) false in omega arith) in
@@ -49,7 +49,7 @@ common-pad [] (c ∷ b) x y e = absurd (let z : ⊥ = omega arith in z)
 common-pad (c ∷ a) [] x y e = absurd (let z : ⊥ = omega arith in z)
 common-pad (c ∷ a) (d ∷ b) x y e = ap (λ (h : Bool). (c && d) || h) (common-pad a b x y (omega arith))
 
-common-words : (n : ℕ) (a b : List Bool) → n ≤ maxBases → length a ≡ n → length b ≡ n → common (setOf maxBases (packed a)) (setOf maxBases (packed b)) ≡ common a b
+pub common-words : (n : ℕ) (a b : List Bool) → n ≤ maxBases → length a ≡ n → length b ≡ n → common (setOf maxBases (packed a)) (setOf maxBases (packed b)) ≡ common a b
 common-words n a b h p q =
     (λ i. common (set-wide maxBases a (rw p h) i) (set-wide maxBases b (rw q h) i)) ∙ common-pad a b (maxBases - length a) (maxBases - length b) (p ∙ sym q)
 

@@ -1,14 +1,14 @@
 -- One line more, and one less, in the arrays of lines.
 -- Assumes nothing.
 use mathlib.Core.Path.{_≡_, refl, sym, _∙_, ap}
-use mathlib.Core.List.{List, [], _∷_, _++_, map, map-append, append-assoc}
-use Prim.Native.Nat.{ℕ, zero, suc, _+_, _-_, _<_, _≤_}
+use mathlib.Core.List.{List, [], _∷_, _++_, map, map-append}
+use Prim.Native.Nat.{ℕ, suc, _+_, _-_, _<_, _≤_}
 use native.Mathlib.Omega.{arith}
 use native.Mathlib.Nat.{suc-add}
 use native.Mathlib.Numerals.{add-one}
 use lib.Dec.{ltb}
 use lib.ListN.{length, getD, drop, set, replicate, length-append, length-map}
-use lib.Seq.{set-at, drop-at, take-append-seam}
+use lib.Seq.{drop-at, take-append-seam}
 use borrow.Author.Tests.{ltb-true, ltb-false}
 use Rattle.causal.proofs.Tests.{test}
 use Rattle.net.specs.Limits.{maxLive}
@@ -18,32 +18,19 @@ use Rattle.net.proofs.Tables.{table-cong}
 use Rattle.words.specs.Sets.{packed}
 use Rattle.marking.specs.Form.{padded}
 use Rattle.marking.specs.Shift.{gap}
+use Rattle.marking.proofs.Padding.{pad-more}
 use Rattle.marking.proofs.Shifts.{gap-below, gap-from}
 use Rattle.bonds.proofs.InPlace.{table-take}
 use Rattle.firings.specs.Lines.{lying, firingsOf, closed, closedUp}
 
 -- ---- one more
 
-one-off : (n : ℕ) → 0 < n → replicate {A = ℕ} n 0 ≡ 0 ∷ replicate (n - 1) 0
-one-off zero h = absurd (let z : ⊥ = omega arith in z)
-one-off (suc n) h = let e : suc n - 1 ≡ n = omega arith in rw e
-
--- a number stored after the others, in place of a zero
-padded-more : (N : ℕ) (l : List ℕ) (x : ℕ) → length l < N → set (padded N l) (length l) x ≡ padded N (l ++ (x ∷ []))
-padded-more N l x h =
-    let k : ℕ = length l in
-    let less : N - k - 1 ≡ N - length (l ++ (x ∷ [])) = (let e = length-append l (x ∷ []) in omega arith) in
-    ap (λ (r : List ℕ). set (l ++ r) k x) (one-off (N - k) (omega arith))
-    ∙ set-at l 0 (replicate (N - k - 1) 0) x k refl
-    ∙ sym (append-assoc l (x ∷ []) (replicate (N - k - 1) 0))
-    ∙ ap (λ (n : ℕ). (l ++ (x ∷ [])) ++ replicate n 0) less
-
 module _ (g : LiveLine → ℕ) (ls : List LiveLine) where
   -- the array of all g, one line more
   array-more : (l : LiveLine) (k x : ℕ) (a : List ℕ) → length ls < maxLive → k ≡ length ls → x ≡ g l → a ≡ padded maxLive (map g ls) → set a k x ≡ padded maxLive (map g (ls ++ (l ∷ [])))
   array-more l k x a h ek ex ea =
       let size : length (map g ls) ≡ length ls = length-map ls g in
-      (λ i. set (ea i) ((ek ∙ sym size) i) (ex i)) ∙ padded-more maxLive (map g ls) (g l) (omega arith) ∙ ap (padded maxLive) (sym (map-append g ls (l ∷ [])))
+      (λ i. set (ea i) ((ek ∙ sym size) i) (ex i)) ∙ pad-more 0 maxLive (map g ls) (g l) (omega arith) ∙ ap (padded maxLive) (sym (map-append g ls (l ∷ [])))
 
 -- a firing stored after the live ones is a line at the end
 pub with-line : (ls : List LiveLine) (l : LiveLine) (k t u w : ℕ) (ts ks ms : List ℕ) → length ls < maxLive → k ≡ length ls

@@ -24,6 +24,12 @@ pub fn command_length(g: u64) -> usize
     (g / 16777216 % 4) as usize
 }
 
+// The bytes of a taking back by key.
+pub fn undo_bytes(key: u64) -> [u8; 3] {
+    let g = made(3, key, 3);
+    [command_byte(g, 0), command_byte(g, 1), command_byte(g, 2)]
+}
+
 // Whether a key is live and not the highest, and, where that is asked, may be taken back.
 fn suits(s: &[u64], key: u64, free: bool) -> bool {
     if (key == 0) | (key == highest(s)) {

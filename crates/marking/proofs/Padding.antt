@@ -2,12 +2,12 @@
 -- Assumes nothing.
 use mathlib.Core.Path.{_≡_, refl, sym, _∙_, ap}
 use mathlib.Core.Bool.{Bool, true}
-use mathlib.Core.List.{List, [], _∷_, _++_}
-use Prim.Native.Nat.{ℕ, zero, suc, _-_, _≤_}
+use mathlib.Core.List.{List, [], _∷_, _++_, append-assoc}
+use Prim.Native.Nat.{ℕ, zero, suc, _-_, _<_, _≤_}
 use native.Mathlib.Omega.{arith}
 use lib.Dec.{eqb}
-use lib.ListN.{length, take, drop, replicate, length-drop, length-append, length-replicate, take-append-drop}
-use lib.Seq.{length-take-le, take-at, drop-at}
+use lib.ListN.{length, take, drop, set, replicate, length-drop, length-append, length-replicate, take-append-drop}
+use lib.Seq.{length-take-le, take-at, drop-at, set-at}
 use borrow.Author.Tests.{eqb-true}
 use Rattle.net.specs.Tests.{all, table}
 use Rattle.net.proofs.Tests.{and-l, and-r}
@@ -26,6 +26,25 @@ module _ {X : Type 0} where
       q ∙ ap (λ (r : List X). table i f ++ drop i r) z
       ∙ ap (λ (r : List X). table i f ++ r) (drop-replicate i n d ∙ ap (λ (r : ℕ). replicate (n - r) d) (sym (length-table i f)))
       ∙ ap (λ (r : ℕ). padWith d n (table r f)) e
+
+  one-off : (n : ℕ) (d : X) → 0 < n → replicate n d ≡ d ∷ replicate (n - 1) d
+  one-off zero d h = absurd (let z : ⊥ = omega arith in z)
+  one-off (suc n) d h = let e : suc n - 1 ≡ n = omega arith in rw e
+
+  -- the list with x, and then one d less
+  pad-snoc : (d : X) (N : ℕ) (l : List X) (x : X) → length l < N → l ++ x ∷ replicate (N - length l - 1) d ≡ padWith d N (l ++ (x ∷ []))
+  pad-snoc d N l x h =
+      let less : N - length l - 1 ≡ N - length (l ++ (x ∷ [])) = (let e = length-append l (x ∷ []) in omega arith) in
+      sym (append-assoc l (x ∷ []) (replicate (N - length l - 1) d)) ∙ ap (λ (n : ℕ). (l ++ (x ∷ [])) ++ replicate n d) less
+
+  -- an element stored after the others, in place of a d
+  pub pad-more : (d : X) (N : ℕ) (l : List X) (x : X) → length l < N → set (padWith d N l) (length l) x ≡ padWith d N (l ++ (x ∷ []))
+  pad-more d N l x h =
+      ap (λ (r : List X). set (l ++ r) (length l) x) (one-off (N - length l) d (omega arith)) ∙ set-at l d (replicate (N - length l - 1) d) x (length l) refl ∙ pad-snoc d N l x h
+
+  -- d itself stored there changes nothing
+  pub pad-same : (d : X) (N : ℕ) (l : List X) → length l < N → padWith d N (l ++ (d ∷ [])) ≡ padWith d N l
+  pad-same d N l h = sym (ap (λ (r : List X). l ++ r) (one-off (N - length l) d (omega arith)) ∙ pad-snoc d N l d h)
 
 -- where only d passes the test, a list whose elements from k on pass is its first k, padded
 module _ {X : Type 0} (t : X → Bool) (d : X) (only : (x : X) → t x ≡ true → x ≡ d) where

@@ -31,7 +31,7 @@ use Rattle.net.proofs.Journal.{Held, played}
 
 -- ---- a command of kind 1
 
-number-bytes : (n : ℕ) → n % 256 + 256 * (n / 256) ≡ n
+pub number-bytes : (n : ℕ) → n % 256 + 256 * (n / 256) ≡ n
 number-bytes n = omega arith
 
 module _ (net : Net) (j : Journal) where

@@ -84,7 +84,7 @@ module _ (net : Net) (ok : netRule net ≡ true) where
       pos k (inl h) = H .above k h
       pos k (inr d) = let x : k .key .0 ≡ suc (lastGiven j .0) = ap (λ (l : LiveLine). l .key .0) d in omega arith
 
-  undo-held : (j : Journal) (k : Key) → clear (undoChecks j k) ≡ true → Held net j → Held net (undoReply net j k .journal)
+  pub undo-held : (j : Journal) (k : Key) → clear (undoChecks j k) ≡ true → Held net j → Held net (undoReply net j k .journal)
   undo-held j k e H =
       let live : isLive k (j .lines) ≡ true = not-false (isLive k (j .lines)) (clear-off (undoChecks j k) e 19) in
       let (xs, ys, q, r) = live-split k (j .lines) live in

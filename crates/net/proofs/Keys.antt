@@ -1,14 +1,14 @@
 -- Laws of the journal's lines: keys in order, a line added at the end, a line found by its key and taken out.
 -- Assumes nothing.
-use mathlib.Core.Path.{_≡_, refl, ap}
+use mathlib.Core.Path.{_≡_, refl, sym, _∙_, ap, subst}
 use mathlib.Core.Logic.{_⊎_, inl, inr}
-use mathlib.Core.Bool.{Bool, true, false, _&&_, _||_}
+use mathlib.Core.Bool.{Bool, true, false, not, _&&_, _||_}
 use mathlib.Core.List.{List, [], _∷_, _++_}
 use Prim.Native.Nat.{ℕ, zero, suc, _<_, _≤_}
 use native.Mathlib.Omega.{arith}
 use lib.Dec.{ltb}
 use lib.ListN.{length}
-use borrow.Author.Tests.{eqb-true, lt-ltb, eq-eqb, ne-eqb}
+use borrow.Author.Tests.{not-true, eqb-true, ltb-true, lt-ltb, eq-eqb, ne-eqb}
 use Rattle.causal.specs.Lists.{Mem}
 use Rattle.causal.specs.Reorderings.{DistinctKeys, IndependentOfAll}
 use Rattle.causal.proofs.Tests.{both}
@@ -17,7 +17,7 @@ use Rattle.net.specs.Tests.{pick}
 use Rattle.net.specs.Firing.{inSet}
 use Rattle.net.specs.Journal.{LiveLine, sameKey, highestLive, isLive, lineOf, without, common, builtOn}
 use Rattle.net.specs.declared.Key.{Key}
-use Rattle.net.proofs.Tests.{fails, and-i, or-l, or-r, or-no-l, or-no-r}
+use Rattle.net.proofs.Tests.{fails, and-l, and-r, and-i, or-l, or-r, or-no-l, or-no-r, any-i, any-e, keep-mem, mem-keep}
 
 -- ---- keys in order
 
@@ -26,7 +26,7 @@ abbrev pub Up : List LiveLine → Type 0
 Up [] = Unit {0}
 Up (l ∷ ls) = ((j : LiveLine) → Mem j ls → l .key .0 < j .key .0) × Up ls
 
-key-of : {j l : LiveLine} → j ≡ l → j .key .0 ≡ l .key .0
+pub key-of : {j l : LiveLine} → j ≡ l → j .key .0 ≡ l .key .0
 key-of e = ap (λ (x : LiveLine). x .key .0) e
 
 pub mem-highest : (ls : List LiveLine) (j : LiveLine) → Mem j ls → j .key .0 ≤ highestLive ls .0
@@ -68,11 +68,33 @@ pub up-after : (l : LiveLine) (xs ys : List LiveLine) → Up (xs ++ l ∷ ys) �
 up-after l [] ys u j h = u .0 j h
 up-after l (x ∷ xs) ys u j h = up-after l xs ys (u .1) j h
 
+pub up-before : (l : LiveLine) (xs ys : List LiveLine) → Up (xs ++ l ∷ ys) → (j : LiveLine) → Mem j xs → j .key .0 < l .key .0
+up-before l [] ys u j h = absurd h
+up-before l (x ∷ xs) ys u j (inl e) = rw (key-of e) (u .0 l (mem-mid l xs ys))
+up-before l (x ∷ xs) ys u j (inr h) = up-before l xs ys (u .1) j h
+
 pub up-distinct : (ls : List LiveLine) → Up ls → DistinctKeys ls
 up-distinct [] u = tt
 up-distinct (l ∷ ls) u = ((λ j h e. let k = u .0 j h in let d : j .key .0 ≡ l .key .0 = ap (λ (x : Key). x .0) e in omega arith), up-distinct ls (u .1))
 
+-- lines of one key are one
+pub one-line : (ls : List LiveLine) → Up ls → (l h : LiveLine) → Mem l ls → Mem h ls → l .key .0 ≡ h .key .0 → l ≡ h
+one-line [] u l h m n e = absurd m
+one-line (x ∷ ls) u l h (inl p) (inl q) e = p ∙ sym q
+one-line (x ∷ ls) u l h (inl p) (inr n) e = let a = u .0 h n in let b = key-of p in absurd (let z : ⊥ = omega arith in z)
+one-line (x ∷ ls) u l h (inr m) (inl q) e = let a = u .0 l m in let b = key-of q in absurd (let z : ⊥ = omega arith in z)
+one-line (x ∷ ls) u l h (inr m) (inr n) e = one-line ls (u .1) l h m n e
+
 -- ---- a line, found by its key and taken out
+
+pub same-key : (k i : Key) → sameKey k i ≡ true → k ≡ i
+same-key k i h = λ n. record { 0 = eqb-true (k .0) (i .0) h n }
+
+pub key-same : (k : Key) → sameKey k k ≡ true
+key-same k = eq-eqb (k .0) (k .0) refl
+
+pub line-live : (ls : List LiveLine) (l : LiveLine) (k : Key) → Mem l ls → l .key .0 ≡ k .0 → isLive k ls ≡ true
+line-live ls l k m e = any-i (λ (h : LiveLine). sameKey (h .key) k) ls l m (eq-eqb (l .key .0) (k .0) e)
 
 pub live-split : (k : Key) (ls : List LiveLine) → isLive k ls ≡ true
     → (xs : List LiveLine) × (ys : List LiveLine) × (ls ≡ xs ++ lineOf k ls ∷ ys) × (lineOf k ls .key .0 ≡ k .0)
@@ -86,6 +108,20 @@ live-split k (l ∷ ls) h = go (sameKey (l .key) k) refl h (live-split k ls)
     go true e d ih = ([], ls, refl, eqb-true (l .key .0) (k .0) e)
     go false e d ih = let (xs, ys, q, r) = ih d in (l ∷ xs, ys, (λ i. l ∷ q i), r)
 
+pub live-line : (ls : List LiveLine) (k : Key) → isLive k ls ≡ true → Mem (lineOf k ls) ls × (lineOf k ls .key .0 ≡ k .0)
+live-line ls k h = let (xs, ys, q, e) = live-split k ls h in (subst (λ (x : List LiveLine). Mem (lineOf k ls) x) (sym q) (mem-mid (lineOf k ls) xs ys), e)
+
+pub own-line : (ls : List LiveLine) → Up ls → (l : LiveLine) → Mem l ls → lineOf (l .key) ls ≡ l
+own-line ls u l m = let (n, e) = live-line ls (l .key) (line-live ls l (l .key) m refl) in one-line ls u (lineOf (l .key) ls) l n m e
+
+pub mem-without : (k : Key) (ls : List LiveLine) (l : LiveLine) → Mem l (without k ls) → Mem l ls × (l .key .0 ≡ k .0 → ⊥)
+mem-without k ls l m =
+    let (n, e) = keep-mem (λ (x : LiveLine). not (sameKey (x .key) k)) ls l m in
+    (n, λ d. both (sameKey (l .key) k) (eq-eqb (l .key .0) (k .0) d) (not-true (sameKey (l .key) k) e))
+
+pub without-mem : (k : Key) (ls : List LiveLine) (l : LiveLine) → Mem l ls → (l .key .0 ≡ k .0 → ⊥) → Mem l (without k ls)
+without-mem k ls l m f = mem-keep (λ (x : LiveLine). not (sameKey (x .key) k)) ls l m (rw (ne-eqb (l .key .0) (k .0) f))
+
 without-later : (k : Key) (ys : List LiveLine) → ((j : LiveLine) → Mem j ys → k .0 < j .key .0) → without k ys ≡ ys
 without-later k [] h = refl
 without-later k (y ∷ ys) h =
@@ -98,7 +134,20 @@ without-split k l (x ∷ xs) ys e u =
     let m = u .0 l (mem-mid l xs ys) in
     rw (ne-eqb (x .key .0) (k .0) (λ d. omega arith), without-split k l xs ys e (u .1))
 
--- ---- nothing later was built on a line
+-- ---- what was built on a line, and what was not
+
+pub built-e : (ls : List LiveLine) (l : LiveLine) → builtOn ls l ≡ true → (h : LiveLine) × Mem h ls × (l .key .0 < h .key .0) × (common (l .moved) (h .moved) ≡ true)
+built-e ls l b =
+    let (h, m, e) = any-e (λ (k : LiveLine). ltb (l .key .0) (k .key .0) && common (l .moved) (k .moved)) ls b in (
+      h,
+      m,
+      ltb-true (l .key .0) (h .key .0) (and-l (ltb (l .key .0) (h .key .0)) (common (l .moved) (h .moved)) e),
+      and-r (ltb (l .key .0) (h .key .0)) (common (l .moved) (h .moved)) e,
+    )
+
+pub built-i : (ls : List LiveLine) (l h : LiveLine) → Mem h ls → l .key .0 < h .key .0 → common (l .moved) (h .moved) ≡ true → builtOn ls l ≡ true
+built-i ls l h m a c = any-i (λ (k : LiveLine). ltb (l .key .0) (k .key .0) && common (l .moved) (k .moved)) ls h m
+    (and-i (ltb (l .key .0) (h .key .0)) (common (l .moved) (h .moved)) (lt-ltb (l .key .0) (h .key .0) a) c)
 
 pub common-i : (m n : List Bool) (p : ℕ) → inSet m p ≡ true → inSet n p ≡ true → common m n ≡ true
 common-i [] n p h k = h

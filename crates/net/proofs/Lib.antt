@@ -1,6 +1,7 @@
 -- What holds of document 01's definitions. Laws first; then the claims on the journal (Claimed), each with its proof.
 pub mod Tests
 pub mod Tables
+pub mod Firsts
 pub mod Sorted
 pub mod Bonds
 pub mod Connection
@@ -14,6 +15,7 @@ pub mod Keys
 pub mod Journal
 pub mod Claimed
 pub mod Demand3
+pub mod Undoing
 pub mod History
 pub mod Totals
 pub mod Pairs

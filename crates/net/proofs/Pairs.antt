@@ -11,7 +11,7 @@ use lib.ListN.{length, length-append}
 use borrow.Author.Tests.{eqb-true, eqb-false}
 use Rattle.causal.specs.Lists.{Mem, Distinct}
 use Rattle.causal.proofs.Tests.{test, both}
-use Rattle.causal.proofs.Lists.{mem-split, mem-unskip}
+use Rattle.causal.proofs.Lists.{mem-unskip, mem-left, mem-right, mem-split}
 use Rattle.net.specs.Tests.{table}
 use Rattle.net.specs.Sorted.{Ascending}
 use Rattle.net.specs.Net.{Marking, Net, bond, sameBond, lessBond}
@@ -42,15 +42,6 @@ module _ {X : Type 0} where
           other z m (inl q) = absurd (d .0 z m q)
           other z m (inr k) = k
 
-  mem-append-l : (xs ys : List X) (x : X) → Mem x xs → Mem x (xs ++ ys)
-  mem-append-l [] ys x h = absurd h
-  mem-append-l (z ∷ xs) ys x (inl e) = inl e
-  mem-append-l (z ∷ xs) ys x (inr h) = inr (mem-append-l xs ys x h)
-
-  mem-append-r : (xs ys : List X) (x : X) → Mem x ys → Mem x (xs ++ ys)
-  mem-append-r [] ys x h = h
-  mem-append-r (z ∷ xs) ys x h = inr (mem-append-r xs ys x h)
-
   mem-table : (n : ℕ) (f : ℕ → X) (p : ℕ) → p < n → Mem (f p) (table n f)
   mem-table zero f p h = absurd (not-suc-le-zero h)
   mem-table (suc n) f zero h = inl refl
@@ -67,8 +58,8 @@ pub mem-pairs : (n : ℕ) (b : Bond) → b .lo < b .hi → b .hi < n → Mem b (
 mem-pairs zero b l h = absurd (not-suc-le-zero h)
 mem-pairs (suc n) b l h = test (eqb (b .hi) n)
     (λ e. let q : b .hi ≡ n = eqb-true (b .hi) n e in
-    mem-append-l (table n (λ p. bond p n)) (pairs n) b (rw (← q) (mem-table (b .hi) (λ p. bond p (b .hi)) (b .lo) l)))
-    (λ e. let q = eqb-false (b .hi) n e in mem-append-r (table n (λ p. bond p n)) (pairs n) b (mem-pairs n b l (omega arith)))
+    mem-left (table n (λ p. bond p n)) (pairs n) b (rw (← q) (mem-table (b .hi) (λ p. bond p (b .hi)) (b .lo) l)))
+    (λ e. let q = eqb-false (b .hi) n e in mem-right (table n (λ p. bond p n)) (pairs n) b (mem-pairs n b l (omega arith)))
 
 pub pairs-count : (n : ℕ) → 2 * length (pairs n) ≡ n * (n - 1)
 pairs-count zero = refl

@@ -1,6 +1,6 @@
 -- Laws of tests: what an equation of a test says, and `all`, `any`, `keep`, `sameList` on a list.
 -- Assumes nothing.
-use mathlib.Core.Path.{_≡_, refl, sym}
+use mathlib.Core.Path.{_≡_, refl, sym, _∙_, ap}
 use mathlib.Core.Logic.{_⊎_, inl, inr}
 use mathlib.Core.Bool.{Bool, true, false, _&&_, _||_, Bool·beq}
 use mathlib.Core.List.{List, [], _∷_, _++_}
@@ -9,7 +9,7 @@ use native.Mathlib.Nat.{le-of-suc-le-suc, not-suc-le-zero}
 use lib.ListN.{length, getD}
 use Rattle.causal.specs.Lists.{Mem}
 use Rattle.causal.proofs.Tests.{both}
-use Rattle.net.specs.Tests.{pick, all, any, sameList}
+use Rattle.net.specs.Tests.{pick, all, any, keep, sameList}
 
 -- ---- one or two tests
 
@@ -131,6 +131,43 @@ module _ {X : Type 0} where
       go : (b : Bool) → any f (xs ++ ys) ≡ (any f xs || any f ys) → (b || any f (xs ++ ys)) ≡ ((b || any f xs) || any f ys)
       go true e = refl
       go false e = e
+
+-- ---- what passes
+
+module _ {X : Type 0} where
+  pub keep-mem : (f : X → Bool) (xs : List X) (x : X) → Mem x (keep f xs) → Mem x xs × (f x ≡ true)
+  keep-mem f [] x h = absurd h
+  keep-mem f (y ∷ ys) x h = go (f y) refl h (keep-mem f ys x)
+    where
+      go : (b : Bool) → f y ≡ b → Mem x (pick b (y ∷ keep f ys) (keep f ys)) → (Mem x (keep f ys) → Mem x ys × (f x ≡ true)) → Mem x (y ∷ ys) × (f x ≡ true)
+      go true e (inl q) ih = (inl q, ap f q ∙ e)
+      go true e (inr m) ih = let (a, b) = ih m in (inr a, b)
+      go false e m ih = let (a, b) = ih m in (inr a, b)
+
+  pub mem-keep : (f : X → Bool) (xs : List X) (x : X) → Mem x xs → f x ≡ true → Mem x (keep f xs)
+  mem-keep f [] x h p = absurd h
+  mem-keep f (y ∷ ys) x (inl e) p = rw (sym (ap f e) ∙ p) (inl e)
+  mem-keep f (y ∷ ys) x (inr m) p = pick-case (λ (l : List X). Mem x l) (f y) (y ∷ keep f ys) (keep f ys) (λ _. inr (mem-keep f ys x m p)) (λ _. mem-keep f ys x m p)
+
+  pub keep-cong : (f g : X → Bool) (xs : List X) → ((x : X) → Mem x xs → f x ≡ g x) → keep f xs ≡ keep g xs
+  keep-cong f g [] h = refl
+  keep-cong f g (x ∷ xs) h = rw (h x (inl refl), keep-cong f g xs (λ y m. h y (inr m)))
+
+  pub keep-yes : (xs : List X) → keep (λ x. true) xs ≡ xs
+  keep-yes [] = refl
+  keep-yes (x ∷ xs) = λ i. x ∷ keep-yes xs i
+
+  pub keep-keep : (f g : X → Bool) (xs : List X) → keep g (keep f xs) ≡ keep (λ x. f x && g x) xs
+  keep-keep f g [] = refl
+  keep-keep f g (x ∷ xs) = go (f x) (g x) refl (keep-keep f g xs)
+    where
+      go : (a b : Bool) → g x ≡ b → keep g (keep f xs) ≡ keep (λ y. f y && g y) xs
+          → keep g (pick a (x ∷ keep f xs) (keep f xs)) ≡ pick (a && b) (x ∷ keep (λ y. f y && g y) xs) (keep (λ y. f y && g y) xs)
+      go true true e ih = rw (e, ih)
+      go true false e ih = rw (e, ih)
+      go false b e ih = ih
+
+-- ---- equal lists
 
 module _ {X : Type 0} (eq : X → X → Bool) where
   pub same-e : ((x y : X) → eq x y ≡ true → x ≡ y) → (l k : List X) → sameList eq l k ≡ true → l ≡ k

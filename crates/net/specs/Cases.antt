@@ -3,10 +3,10 @@
 use mathlib.Core.Path.{_≡_}
 use mathlib.Core.Bool.{Bool, true, false}
 use mathlib.Core.List.{List, [], _∷_}
-use Prim.Native.Nat.{ℕ, _/_, _%_}
+use Prim.Native.Nat.{ℕ}
 use Rattle.net.specs.Net.{Arcs, Marking, Net, bond}
 use Rattle.net.specs.Journal.{LiveLine, Answer, fired, undone, refused, transition, key, begin, act, play}
-use Rattle.net.specs.Claims.{fireCommand}
+use Rattle.net.specs.Claims.{fireCommand, undoCommand}
 use Rattle.net.specs.declared.Bond.{Bond}
 use Rattle.net.specs.declared.Entry.{Entry}
 use Rattle.net.specs.declared.Key.{Key}
@@ -42,9 +42,6 @@ fireOf n = fireCommand (transition n)
 
 abbrev pub undoLast : List ℕ
 undoLast = 2 ∷ 0 ∷ 0 ∷ []
-
-abbrev undoCommand : Key → List ℕ
-undoCommand k = 3 ∷ k .0 % 256 ∷ k .0 / 256 ∷ []
 
 abbrev pub undoOf : ℕ → List ℕ
 undoOf n = undoCommand (key n)

@@ -1,4 +1,4 @@
--- What claims on a session are written in: the forward run of a list of lines, and document 01's totals.
+-- What claims on a session are written in: the forward run of a list of lines, keys taken back by command, document 01's totals.
 -- Definitions only.
 use mathlib.Core.Path.{_≡_}
 use mathlib.Core.Bool.{Bool, true, not, _&&_}
@@ -12,6 +12,7 @@ use Rattle.net.specs.Marking.{Good}
 use Rattle.net.specs.Journal.{LiveLine, Journal, Answer, fired, undone, refused, key}
 use Rattle.net.specs.declared.Bond.{Bond}
 use Rattle.net.specs.declared.Transition.{Transition}
+use Rattle.net.specs.declared.Key.{Key}
 
 -- ---- The forward run (01, the session book; the mission's demand 3)
 
@@ -31,6 +32,19 @@ numbered k (l ∷ ls) = record { transition = l .transition; key = key (suc k); 
 abbrev pub allFired : ℕ → List LiveLine → List Answer
 allFired k [] = []
 allFired k (l ∷ ls) = fired (key (suc k)) ∷ allFired (suc k) ls
+
+-- ---- Taking back by key (01, commands: kind 3)
+
+-- a key as a command of kind 3
+abbrev pub undoCommand : Key → List ℕ
+undoCommand k = 3 ∷ k .0 % 256 ∷ k .0 / 256 ∷ []
+
+abbrev pub undoCommands : List Key → List (List ℕ)
+undoCommands ks = map undoCommand ks
+
+-- each command is answered `undone`, with its key
+abbrev pub allUndone : List Key → List Answer
+allUndone ks = map undone ks
 
 -- ---- Serials (02, T-03)
 

@@ -29,6 +29,11 @@ module _ {X : Type 0} where
   keep f [] = []
   keep f (x ∷ xs) = pick (f x) (x ∷ keep f xs) (keep f xs)
 
+  -- the number of the first that passes; the list's length where none does
+  abbrev pub firstAt : (X → Bool) → List X → ℕ
+  firstAt f [] = 0
+  firstAt f (x ∷ xs) = pick (f x) 0 (suc (firstAt f xs))
+
   -- the two lists have the same elements in the same order
   abbrev pub sameList : (X → X → Bool) → List X → List X → Bool
   sameList eq [] [] = true

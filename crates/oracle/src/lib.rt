@@ -70,6 +70,11 @@ pub fn tally_at(s: &[u64], word: u64) -> u64 {
     get(s, TALLY + (word % 3) as usize)
 }
 
+// A state of zeros.
+pub fn zeros() -> [u64; STATE] {
+    [0; STATE]
+}
+
 // The start of a sheet: M0, an empty history with no key given, and a tally with one number in each count.
 pub fn begin(sheet: &[u8], s: &mut [u64], tally: u64) {
     fill(s, 0, TALLY, 0);

@@ -3,7 +3,7 @@
 use mathlib.Core.Path.{_≡_, refl, ap, _∙_}
 use mathlib.Core.Bool.{true}
 use mathlib.Core.List.{List, [], _∷_, _++_, map}
-use Prim.Native.Nat.{ℕ, zero, suc, _+_, _<_, _≤_}
+use Prim.Native.Nat.{ℕ, zero, suc, _+_, _≤_}
 use native.Mathlib.Omega.{arith}
 use native.Mathlib.Nat.{le-of-suc-le-suc, zero-add}
 use lib.Dec.{leb}
@@ -20,9 +20,9 @@ use Rattle.text.specs.Writes.{Wrote, Filled}
 use Rattle.text.specs.Ascii.{ascii}
 use Rattle.text.proofs.Writes.{written-none, written-more}
 use Rattle.session.specs.Runs.{Answered}
-use Rattle.session.specs.declared.Answer.{Answer}
-use Rattle.session.specs.declared.Answer.the-variants.{Fired, Undone, Refused}
-use Rattle.session.specs.Commands.{wordOf, valueOf}
+use Rattle.commands.specs.declared.Answer.{Answer}
+use Rattle.commands.specs.declared.Answer.the-variants.{Fired, Undone, Refused}
+use Rattle.commands.specs.Answers.{wordOf, valueOf}
 use Rattle.session.specs.Lists.{lowRefusal}
 use Rattle.report.specs.Lines.{answerLine, toldLine, LowValue}
 use Rattle.output.specs.Output.{sheetRefused, refusedSheet}

@@ -27,12 +27,13 @@ use Rattle.text.specs.Joined.{joined}
 use Rattle.text.specs.Writes.{Wrote, Filled}
 use Rattle.text.proofs.Writes.{sets-front, written-none, written-more}
 use Rattle.sound.specs.Soundness.{journalIn, soundIn}
+use Rattle.sound.proofs.Holds.{live-few}
 use Rattle.session.specs.Records.{heldIn, recordOf, Sound}
-use Rattle.session.specs.Commands.{answerOf, keyOf, wordOf, valueOf, Result, commandOf, freshOf}
+use Rattle.session.specs.Commands.{Result, commandOf, freshOf}
+use Rattle.commands.specs.Answers.{answerOf, keyOf, wordOf, valueOf}
 use Rattle.session.specs.Runs.{answered, Answered, Session, runOf}
 use Rattle.session.specs.declared.Record.{Record}
 use Rattle.session.proofs.Steps.{follows-fresh, held-back}
-use Rattle.session.proofs.Sounds.{live-few}
 use Rattle.session.proofs.Begins.{fresh-sound}
 use Rattle.command_list.specs.Commands.{howMany, commandAt, commandsIn}
 use Rattle.session.specs.Lists.{lowRefusal, wordsOf, valuesOf, ranOf, RunGives}
@@ -86,11 +87,11 @@ module _ (s b : List ℕ) (accepted : clear (sheetChecks s) ≡ true) where
 
   answers-are : ran .answers ≡ map answered replies
   unfolding ranOf
-  answers-are = let P = promised s accepted in follows-fresh s accepted (P .rule) (P .bases .1) (commandsIn b) zeroTally .answers
+  answers-are = follows-fresh s accepted (commandsIn b) zeroTally .answers
 
   session-is : ran .session ≡ recordOf journal
   unfolding ranOf
-  session-is = let P = promised s accepted in follows-fresh s accepted (P .rule) (P .bases .1) (commandsIn b) zeroTally .session
+  session-is = follows-fresh s accepted (commandsIn b) zeroTally .session
 
   tally-is : ran .tally ≡ tallied replies zeroTally
   unfolding ranOf
@@ -100,7 +101,7 @@ module _ (s b : List ℕ) (accepted : clear (sheetChecks s) ≡ true) where
   holds : heldIn s (ran .session) ≡ journal
   holds =
       let P = promised s accepted in
-      ap (heldIn s) session-is ∙ held-back s accepted (P .rule) (P .bases .1) journal (play-held (netOf s) (P .rule) (commandsIn b) (begin (netOf s)) (begin-held (netOf s) (P .rule)))
+      ap (heldIn s) session-is ∙ held-back s accepted journal (play-held (netOf s) (P .rule) (commandsIn b) (begin (netOf s)) (begin-held (netOf s) (P .rule)))
 
   low : all (λ (a : Answered). lowRefusal (a .answer)) (ran .answers) ≡ true
   unfolding ranOf
@@ -112,7 +113,7 @@ module _ (s b : List ℕ) (accepted : clear (sheetChecks s) ≡ true) where
 
   -- what the closing lines ask of the record
   pub few-live : ran .session .firings .live ≤ maxLive
-  few-live = live-few s (ran .session) (ran-sound s b (freshOf s) zeroTally (fresh-sound s accepted))
+  few-live = live-few s (ran .session .marking) (ran .session .firings) (ran .session .given) (ran-sound s b (freshOf s) zeroTally (fresh-sound s accepted))
 
   pub few-bonds : ran .session .marking .count ≤ maxBonds
   unfolding soundIn

@@ -16,7 +16,7 @@ use Rattle.tally.specs.declared.Tally.{Tally}
 use Rattle.text.specs.Decimal.{decimal}
 use Rattle.text.specs.Ascii.{ascii}
 use Rattle.closing.specs.Closing.{placesLine, bondLines, liveLine, tallyLine}
-use Rattle.session.specs.Commands.{answerOf, keyOf, wordOf}
+use Rattle.commands.specs.Answers.{answerOf, keyOf, wordOf}
 use Rattle.command_list.specs.Commands.{commandsIn}
 use Rattle.report.specs.Lines.{toldLine}
 

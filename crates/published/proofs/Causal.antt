@@ -22,7 +22,7 @@ use Rattle.net.proofs.Tests.{fails, or-l}
 use Rattle.net.proofs.Moves.{Fit, view, seen-place, seen-first, entry-moves, mem-moved}
 use Rattle.net.proofs.Fire.{has-fire}
 use Rattle.net.proofs.Rules.{fits}
-use Rattle.net.proofs.Keys.{mem-highest, up-after, live-split, independent-later, builtOn-after}
+use Rattle.net.proofs.Keys.{mem-highest, up-after, one-line, line-live, live-split, live-line, independent-later, builtOn-after}
 use Rattle.net.proofs.Journal.{Held}
 use Rattle.published.specs.Sets.{Iff, Item, base, bond, Max}
 use Rattle.published.specs.States.{Somewhere}
@@ -31,7 +31,7 @@ use Rattle.published.specs.Causal.{Order, CausalEnabled}
 use Rattle.published.specs.Sheets.{anchor, Allowed, Present, petriNet, marksOf, historyOf}
 use Rattle.published.proofs.Firing.{goes-to}
 use Rattle.published.proofs.Reversal.{moved-leave-back, leave-back-moved, reversed-to, reversed-from}
-use Rattle.published.proofs.Lines.{one-line, line-live, live-line, highest-is, builtOn-e, builtOn-i}
+use Rattle.published.proofs.Lines.{highest-is, builtOn-e, builtOn-i}
 use Rattle.published.proofs.Sessions.{good-now, line-listed, Untouched, untouched}
 use Rattle.published.proofs.Keys.{one-max, undo-live, undo-free, undo-mem, undo-key, undo-latest}
 use Rattle.published.proofs.Order.{Agrees}

@@ -8,19 +8,20 @@ use Prim.Native.Nat.{ℕ, suc, _<_, _≤_}
 use native.Mathlib.Omega.{arith}
 use lib.Dec.{eqb}
 use Rattle.causal.specs.Lists.{Mem}
+use Rattle.causal.proofs.Lists.{mem-mid, mem-left}
 use Rattle.net.specs.Tests.{pick}
 use Rattle.net.specs.Net.{Net}
 use Rattle.net.specs.Rules.{netRule}
 use Rattle.net.specs.Checks.{clear, first}
 use Rattle.net.specs.Journal.{LiveLine, Journal, Answer, fired, undone, refused, Reply, key, highestLive, lastGiven, kindOf, transitionNamed, keyNamed, checks, newLine, fireReply, undoReply, refuse, act, play, answers, begin}
 use Rattle.net.specs.declared.Transition.{Transition}
-use Rattle.net.proofs.Keys.{mem-highest, mem-snoc}
+use Rattle.net.proofs.Keys.{key-of, mem-highest, mem-snoc}
 use Rattle.net.proofs.Journal.{Held}
 use Rattle.published.specs.Sets.{Max}
 use Rattle.published.specs.Forward.{keysWith, keysAndZero, firedKeys}
 use Rattle.published.specs.Sheets.{petriNet, historyOf, givenAndZero}
 use Rattle.published.specs.Claims.{JournalKeysAsPublished}
-use Rattle.published.proofs.Lines.{key-of, mem-left, mem-last, highest-is}
+use Rattle.published.proofs.Lines.{highest-is}
 use Rattle.published.proofs.Sessions.{line-listed}
 use Rattle.published.proofs.Keys.{one-max}
 
@@ -39,7 +40,7 @@ module _ (net : Net) (ok : netRule net ≡ true) (j : Journal) (H : Held net j) 
 
   fired-from : (t u : Transition) (k : ℕ) → keysWith (historyOf j) t (suc (lastGiven j .0)) u k → historyOf (fireReply net j t .journal) u k
   fired-from t u k (inl (l, m, e, q)) = (l, mem-left (j .lines) (newLine net j t ∷ []) l m, e, q)
-  fired-from t u k (inr (e, q)) = (newLine net j t, mem-last (j .lines) (newLine net j t), sym e, sym q)
+  fired-from t u k (inr (e, q)) = (newLine net j t, mem-mid (newLine net j t) (j .lines) [], sym e, sym q)
 
   -- ---- Definition 5's own key
 
@@ -77,7 +78,7 @@ module _ (net : Net) (ok : netRule net ≡ true) (j : Journal) (H : Held net j) 
     highest = max-keys;
     definition5 = λ t. (
       (λ same u k. ((λ h. own-to same t u k (fired-to t u k h)), λ h. fired-from t u k (own-from same t u k h))),
-      λ f. only-own t (f t (suc (lastGiven j .0)) .0 (newLine net j t, mem-last (j .lines) (newLine net j t), refl, refl)),
+      λ f. only-own t (f t (suc (lastGiven j .0)) .0 (newLine net j t, mem-mid (newLine net j t) (j .lines) [], refl, refl)),
     );
   }
 

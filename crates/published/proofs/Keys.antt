@@ -15,12 +15,13 @@ use Rattle.net.specs.Journal.{LiveLine, Journal, isLive, lineOf, builtOn, undoC
 use Rattle.net.specs.declared.Key.{Key}
 use Rattle.net.specs.declared.Transition.{Transition}
 use Rattle.net.proofs.Checks.{clear-off}
+use Rattle.net.proofs.Keys.{one-line, live-line, mem-without, without-mem}
 use Rattle.net.proofs.Journal.{Held}
 use Rattle.published.specs.Sets.{Iff, Max}
 use Rattle.published.specs.Backtracking.{reversedKeys}
 use Rattle.published.specs.Sheets.{historyOf}
 use Rattle.published.proofs.Arcs.{some-entry}
-use Rattle.published.proofs.Lines.{one-line, live-line, mem-without, without-mem, builtOn-i}
+use Rattle.published.proofs.Lines.{builtOn-i}
 use Rattle.published.proofs.Sessions.{line-listed, entry-in-line}
 
 -- a set has one highest number

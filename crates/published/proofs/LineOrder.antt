@@ -8,7 +8,7 @@ use native.Mathlib.Omega.{arith}
 use lib.ListN.{length, length-append}
 use borrow.Author.Tests.{lt-leb}
 use Rattle.causal.specs.Runs.{Run}
-use Rattle.causal.proofs.Lists.{mem-mid}
+use Rattle.causal.proofs.Lists.{mem-mid, mem-left}
 use Rattle.causal.proofs.Runs.{run-join}
 use Rattle.net.specs.Net.{Marking, Net, arcsOf}
 use Rattle.net.specs.Rules.{netRule}
@@ -21,7 +21,6 @@ use Rattle.net.proofs.Keys.{Up, mem-highest, highest-snoc}
 use Rattle.net.proofs.Journal.{Held}
 use Rattle.published.specs.Causal.{Order, noOrder, firedOrder}
 use Rattle.published.specs.Sheets.{petriNet, marksOf, historyOf, withLine, orderOver, orderOfLines}
-use Rattle.published.proofs.Lines.{mem-left}
 use Rattle.published.proofs.Order.{Agrees, line-order}
 
 -- ---- the first lines of a list

@@ -10,6 +10,7 @@ use lib.Dec.{eqb}
 use Rattle.causal.specs.Lists.{Mem}
 use Rattle.causal.specs.Reorderings.{Dependent}
 use Rattle.causal.proofs.Tests.{both}
+use Rattle.causal.proofs.Lists.{mem-mid, mem-left}
 use Rattle.net.specs.Tests.{pick}
 use Rattle.net.specs.Net.{Net, arcsOf}
 use Rattle.net.specs.Rules.{netRule}
@@ -24,7 +25,7 @@ use Rattle.net.proofs.Checks.{clear-append}
 use Rattle.net.proofs.Connection.{leads-trans, leads-sym}
 use Rattle.net.proofs.Moves.{mem-moved}
 use Rattle.net.proofs.Rules.{fits}
-use Rattle.net.proofs.Keys.{mem-highest, mem-snoc}
+use Rattle.net.proofs.Keys.{key-of, mem-highest, mem-snoc, one-line, mem-without, without-mem}
 use Rattle.net.proofs.Journal.{Held, enabled-fires, checks-kind, act-held, begin-held}
 use Rattle.published.specs.Sets.{Iff, base, Max}
 use Rattle.published.specs.Causal.{Uses, Order, noOrder, firedOrder, reversedOrder}
@@ -32,7 +33,7 @@ use Rattle.published.specs.Sheets.{petriNet, marksOf, historyOf, orderSt
 use Rattle.published.proofs.Components.{con-leads, leads-con}
 use Rattle.published.proofs.Enabling.{at-home}
 use Rattle.published.proofs.Firing.{led-moves, moves-led}
-use Rattle.published.proofs.Lines.{key-of, mem-left, mem-last, one-line, mem-without, without-mem, builtOn-i}
+use Rattle.published.proofs.Lines.{builtOn-i}
 use Rattle.published.proofs.Sessions.{good-now, line-listed, entry-in-line, still-carried}
 use Rattle.published.proofs.Keys.{one-max, undo-free, undo-mem, undo-key, undo-latest}
 
@@ -85,7 +86,7 @@ module _ (net : Net) (ok : netRule net ≡ true) (j : Journal) (H : Held net j) 
 
     -- the new key is the highest
     newest : Max (historyOf j′ t) (new .key .0)
-    newest = ((new, mem-last (j .lines) new, refl, refl), λ i (l, m, _, q). below i l q (mem-snoc (j .lines) new l m))
+    newest = ((new, mem-mid new (j .lines) [], refl, refl), λ i (l, m, _, q). below i l q (mem-snoc (j .lines) new l m))
       where
         below : (i : ℕ) (l : LiveLine) → l .key .0 ≡ i → Mem l (j .lines) ⊎ (l ≡ new) → i ≤ new .key .0
         below i l q (inl m) = let a = mem-highest (j .lines) l m in omega arith
@@ -103,7 +104,7 @@ module _ (net : Net) (ok : netRule net ≡ true) (j : Journal) (H : Held net j) 
           l,
           new,
           m,
-          mem-last (j .lines) new,
+          mem-mid new (j .lines) [],
           p,
           q,
           sym same,

@@ -11,7 +11,7 @@ use borrow.Author.Tests.{eqb-true}
 use Rattle.causal.specs.Lists.{Mem}
 use Rattle.causal.proofs.Tests.{both, test}
 use Rattle.net.specs.Limits.{maxBases, maxLive}
-use Rattle.net.specs.Tests.{pick, any, table}
+use Rattle.net.specs.Tests.{pick, any, table, firstAt}
 use Rattle.net.specs.Firing.{inSet}
 use Rattle.net.specs.Net.{Net}
 use Rattle.net.specs.Journal.{LiveLine, Journal, noLine, sameKey, lineKeys, isLive, lineOf, common, builtOn, keyNamed, refused, act}
@@ -25,9 +25,8 @@ use Rattle.firings.specs.Lines.{setsOf, firingsOf}
 use Rattle.firings.specs.Search.{indexOf, builtOnIn}
 use Rattle.firings.proofs.Laid.{getD-front, mem-at}
 use Rattle.firings.proofs.Built.{built-lines}
-use Rattle.reasons.specs.First.{firstAt}
 use Rattle.reasons.specs.Reasons.{builtAfter, inBoth, laterAt, commonAt}
-use Rattle.reasons.proofs.Firsts.{first-on, first-holds}
+use Rattle.net.proofs.Firsts.{first-on, first-holds}
 use Rattle.reasons.proofs.Named.{refused-20}
 
 -- of the numbers below n, the first that passes

@@ -7,13 +7,12 @@ use Prim.Native.Nat.{ℕ, _+_, _-_, _<_, _≤_}
 use native.Mathlib.Omega.{arith}
 use lib.ListN.{getD}
 use Rattle.net.specs.Limits.{maxBases}
-use Rattle.net.specs.Tests.{any, table}
+use Rattle.net.specs.Tests.{any, table, firstAt}
 use Rattle.net.specs.Journal.{common}
 use Rattle.words.specs.Sets.{setOf}
 use Rattle.format.proofs.Loops.{any-on}
-use Rattle.reasons.specs.First.{firstAt}
 use Rattle.reasons.specs.Reasons.{builtAfter}
-use Rattle.reasons.proofs.Firsts.{first-here, first-none}
+use Rattle.net.proofs.Firsts.{first-here, first-none}
 
 -- the firing at j, as the one after i by its distance
 at-distance : (moved : List ℕ) (i j : ℕ) (b : Bool) → i + 1 ≤ j → common (setOf maxBases (getD moved i 0)) (setOf maxBases (getD moved j 0)) ≡ b → builtAfter moved i (j - (i + 1)) ≡ b

@@ -1,5 +1,4 @@
--- Laws of the first that passes, and what a reason says where a command was refused by its number.
-pub mod Firsts
+-- What a reason says where a command was refused by its number.
 pub mod Tests
 pub mod Later
 pub mod Named

@@ -11,15 +11,14 @@ use lib.Seq.{getD-take}
 use borrow.Author.Tests.{eq-eqb}
 use Rattle.causal.specs.Lists.{Mem}
 use Rattle.causal.proofs.Tests.{both}
-use Rattle.net.specs.Tests.{pick, any}
+use Rattle.net.specs.Tests.{pick, any, firstAt}
 use Rattle.net.specs.Net.{Arcs, Marking, Net, arcsOf}
 use Rattle.net.specs.Firing.{misplaced, bondAbsent, bondPresent, tornApart}
 use Rattle.net.specs.Checks.{Check, first, clear}
 use Rattle.net.specs.Journal.{Journal, Answer, fired, undone, refused, lineOf, builtOn, kindOf, fireChecks, undoChecks, transitionNamed, keyNamed, checks, fireReply, undoReply, refuse, act}
 use Rattle.net.specs.declared.Entry.{Entry}
-use Rattle.reasons.specs.First.{firstAt}
 use Rattle.reasons.specs.Reasons.{awayFrom, absentFrom, presentIn, tornFrom, hasPartner}
-use Rattle.reasons.proofs.Firsts.{first-on, first-holds, first-cong}
+use Rattle.net.proofs.Firsts.{first-on, first-holds, first-cong}
 
 -- The i-th of a list is there, and passes the test.
 pub record Named {X : Type 0} (f : X → Bool) (l : List X) (i : ℕ) : Type 0 where

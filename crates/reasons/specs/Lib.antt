@@ -1,3 +1,2 @@
--- Reasons of refusals (01, the turned-away list): the first of a list that passes a test, and the tests.
-pub mod First
+-- Reasons of refusals (01, the turned-away list): the tests of which the first that passes is the reason.
 pub mod Reasons

@@ -6,7 +6,7 @@ use Prim.Native.Nat.{ℕ, _+_, _-_}
 use lib.Dec.{eqb}
 use lib.ListN.{getD}
 use Rattle.net.specs.Limits.{maxBases}
-use Rattle.net.specs.Tests.{any, table}
+use Rattle.net.specs.Tests.{any, table, firstAt}
 use Rattle.net.specs.Net.{Arcs, Marking, hasBond}
 use Rattle.net.specs.Connection.{connected}
 use Rattle.net.specs.Firing.{inSet, bondsSeen}
@@ -14,7 +14,6 @@ use Rattle.net.specs.Journal.{common}
 use Rattle.net.specs.declared.Bond.{Bond}
 use Rattle.net.specs.declared.Entry.{Entry}
 use Rattle.words.specs.Sets.{setOf}
-use Rattle.reasons.specs.First.{firstAt}
 
 -- 13: an entry's base is not at its in-place
 abbrev pub awayFrom : List ℕ → Entry → Bool

@@ -8,7 +8,7 @@ ghost use Rattle.net.specs.Net.{Arcs, Marking, sameBond, lessBond};
 ghost use Rattle.format.specs.Arcs.{entryCount, nthEntry, arcsIn};
 ghost use Rattle.bonds.specs.Ends.{bondsIn};
 ghost use Rattle.labels.specs.Labelled.{Parted};
-ghost use Rattle.reasons.specs.First.{firstAt};
+ghost use Rattle.net.specs.Tests.{firstAt};
 ghost use Rattle.reasons.specs.Reasons.{awayFrom, absentFrom, presentIn, tornFrom, hasPartner, laterAt, commonAt};
 use bonds::has_bond;
 use enabling::is_in_bond;

@@ -3,12 +3,12 @@
 // worked out from document 01; the tally has one more in one count, and a refused command hands back the very record.
 use crate::same::same_record;
 use case_tools::bytes::one_more;
+use commands::Answer;
+use commands::value_of;
+use commands::word_of;
 use net::Key;
-use session::Answer;
 use session::Record;
 use session::command_with;
-use session::value_of;
-use session::word_of;
 use tally::Tally;
 
 pub struct Case {

@@ -1,10 +1,10 @@
 // The answer line into lent buffers (document 01, the turned-away list, 22; the exam program).
 // A buffer of 23 bytes is refused, one of 24 is written to.
 use case_tools::bytes::byte;
+use commands::Answer;
 use net::Key;
 use oracle::sets::get;
 use report::answer_line;
-use session::Answer;
 
 // The letter that a row writes for a byte of the line: `_` is a space, `/` the newline. Letter 0 is the colon before them.
 fn expected(letters: &[u8], i: usize) -> u8 {

@@ -16,9 +16,9 @@ use Rattle.text.specs.Ascii.{ascii}
 use Rattle.causal.proofs.Tests.{both}
 use Rattle.net.specs.Tests.{pick}
 use Rattle.net.specs.declared.Key.{Key}
-use Rattle.session.specs.Commands.{wordOf, valueOf, valueBound}
-use Rattle.session.specs.declared.Answer.{Answer}
-use Rattle.session.specs.declared.Answer.the-variants.{Fired, Undone, Refused}
+use Rattle.commands.specs.Answers.{wordOf, valueOf, valueBound}
+use Rattle.commands.specs.declared.Answer.{Answer}
+use Rattle.commands.specs.declared.Answer.the-variants.{Fired, Undone, Refused}
 use Rattle.report.specs.Lines.{wordText, answerLine, toldLine, valueLimit, LowValue}
 use Rattle.report.proofs.Places.{digits-few, decimal-five}
 

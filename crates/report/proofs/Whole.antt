@@ -12,8 +12,8 @@ use Rattle.text.specs.Decimal.{digits, decimal}
 use Rattle.text.specs.Ascii.{ascii}
 use Rattle.text.proofs.Digits.{digits-length}
 use Rattle.text.proofs.Writes.{sets-front}
-use Rattle.session.specs.declared.Answer.{Answer}
-use Rattle.session.specs.declared.Answer.the-variants.{Fired, Undone, Refused}
+use Rattle.commands.specs.declared.Answer.{Answer}
+use Rattle.commands.specs.declared.Answer.the-variants.{Fired, Undone, Refused}
 use Rattle.report.specs.Lines.{wordText, answerLine, toldLine, valueLimit, minLine, bufferOf}
 use Rattle.report.proofs.Places.{decimal-five}
 use Rattle.report.proofs.Pieces.{room}

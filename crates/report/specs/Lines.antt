@@ -11,8 +11,8 @@ use Rattle.net.specs.Tests.{pick}
 use Rattle.net.specs.declared.Key.{Key}
 use Rattle.text.specs.Decimal.{decimal}
 use Rattle.text.specs.Ascii.{ascii}
-use Rattle.session.specs.Commands.{wordOf, valueOf}
-use Rattle.session.specs.declared.Answer.{Answer}
+use Rattle.commands.specs.Answers.{wordOf, valueOf}
+use Rattle.commands.specs.declared.Answer.{Answer}
 use Rattle.report.specs.declared.Written.{Written}
 
 -- ---- The line

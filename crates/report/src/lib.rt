@@ -5,10 +5,10 @@ ghost use Prim.Native.Nat.{_+_, _≤_, _<_};
 ghost use lib.ListN.{length};
 ghost use Rattle.text.specs.Writes.{Wrote};
 ghost use Rattle.report.specs.Lines.{wordText, answerLine, LowValue, minLine, writtenOf, bufferOf};
+use commands::Answer;
+use commands::value_of;
+use commands::word_of;
 use net::Key;
-use session::Answer;
-use session::value_of;
-use session::word_of;
 use text::put_digits;
 use text::put_word;
 

@@ -5,11 +5,11 @@ use crate::put::put_count;
 use crate::put::put_coupling;
 use crate::put::put_item;
 use crate::put::put_text;
+use commands::Answer;
 use marking::Marking;
 use net::MAX_BASES;
 use net::MAX_BONDS;
 use net::MAX_LIVE;
-use session::Answer;
 use session::Outcome;
 use session::Record;
 use session::StartAnswer;
@@ -44,7 +44,7 @@ pub fn put_start(buf: &mut [u8], a: StartAnswer, length: usize) -> usize {
 }
 
 // A number where it is one of those that are asked for.
-fn put_if(buf: &mut [u8], at: usize, mine: bool, n: usize) -> usize {
+pub fn put_if(buf: &mut [u8], at: usize, mine: bool, n: usize) -> usize {
     if !mine {
         return at;
     }

@@ -37,6 +37,7 @@ use crate::state::mistake;
 use crate::state::no_counts;
 use crate::state::opened;
 use crate::state::tell;
+use crate::ways::way_line;
 use lexing::next;
 use session::command_with;
 use session_start::start;
@@ -192,7 +193,7 @@ fn other_line(name: &[u8], d: Desk) -> Desk {
     mistake(
         name,
         d,
-        b"`fire K`, `undo last`, `undo S`, `hex BYTES`, `block`, `hand in`, `where`, `couplings`, `live`, `moved S`, `step of S`, `tally`, `why`, `page N`, `row N I`, `with AT BYTE`, `cut LENGTH`, `expect ANSWER`, `sheet` or `session`",
+        b"`fire K`, `undo last`, `undo S`, `hex BYTES`, `block`, `hand in`, `where`, `couplings`, `live`, `moved S`, `step of S`, `tally`, `why`, `page N`, `row N I`, `way back part P at X ..`, `with AT BYTE`, `cut LENGTH`, `expect ANSWER`, `sheet` or `session`",
     )
 }
 
@@ -221,6 +222,7 @@ fn in_session(
         Form::Expect => d,
         Form::Block => begin_block(d, to),
         Form::HandIn => mistake(name, d, b"`block` and commands before `hand in`"),
+        Form::WayBack => way_line(name, line, d, sheet, answer),
         Form::Other => other_line(name, d),
     }
 }
@@ -244,6 +246,7 @@ fn turn_of(form: Form, reading: bool) -> Turn {
         Form::Asks(q) => if reading { Turn::Pass } else { Turn::Line },
         Form::Block => if reading { Turn::Pass } else { Turn::Line },
         Form::HandIn => if reading { Turn::Pass } else { Turn::Line },
+        Form::WayBack => if reading { Turn::Pass } else { Turn::Line },
         Form::Other => if reading { Turn::Pass } else { Turn::Line },
     }
 }

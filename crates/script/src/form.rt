@@ -34,6 +34,7 @@ pub enum Form {
     Expect,
     Block,
     HandIn,
+    WayBack,
     Command(Order),
     Asks(Question),
     Other,
@@ -78,13 +79,16 @@ fn changed_form(line: &[u8]) -> Form {
     Form::Other
 }
 
-// Pages of the live firings.
+// Pages of the live firings, and `way back` with whatever is behind it.
 fn page_form(line: &[u8]) -> Form {
     if is(line, b"page 65535") {
         return Form::Asks(Question::Page(number(line, 0)));
     }
     if is(line, b"row 65535 51") {
         return Form::Asks(Question::Row(number(line, 0), number(line, 1)));
+    }
+    if has_form(line, 0, b"way back", 2) {
+        return Form::WayBack;
     }
     changed_form(line)
 }

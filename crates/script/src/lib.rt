@@ -20,3 +20,4 @@ pub mod same;
 mod say;
 mod sheets;
 mod state;
+mod ways;

@@ -68,7 +68,7 @@ fn same_item(a: &[u8], p: Piece, b: &[u8], q: Piece) -> bool {
 }
 
 // The next item from a position on; the end where the position is past it.
-fn item_at(text: &[u8], at: usize) -> Piece {
+pub fn item_at(text: &[u8], at: usize) -> Piece {
     if text.len() < at {
         return Piece {
             kind: Kind::End,

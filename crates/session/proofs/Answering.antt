@@ -1,4 +1,4 @@
--- Any command on any record and sheet: refused by one of 1 to 10, or performed.
+-- Any command on any record and sheet: refused by one of 1 to 10.
 -- Assumes nothing.
 use mathlib.Core.Path.{_≡_, sym}
 use mathlib.Core.Bool.{Bool, false}
@@ -8,12 +8,10 @@ use Rattle.net.specs.Tests.{pick}
 use Rattle.net.specs.Checks.{Check, clear, first}
 use Rattle.net.specs.Journal.{checks}
 use Rattle.format.specs.NetOf.{netOf}
-use Rattle.sound.specs.Soundness.{Passed}
 use Rattle.sound.proofs.Refusing.{refused-first, refused-clear}
-use Rattle.session.specs.Records.{heldIn, recordOf, Sound}
-use Rattle.session.specs.Commands.{refusal, acceptOf, performOf, recordChecks, commandChecks, outcomeFor}
+use Rattle.session.specs.Records.{heldIn}
+use Rattle.session.specs.Commands.{refusal, acceptOf, recordChecks, commandChecks, outcomeFor}
 use Rattle.session.specs.declared.Record.{Record}
-use Rattle.session.proofs.Steps.{sound-performs}
 
 module _ (s : List ℕ) (r : Record) (c : List ℕ) where
   by-first : (a : Bool) (n : ℕ) → clear (commandChecks s r c) ≡ a → first (commandChecks s r c) ≡ n → outcomeFor s r c ≡ pick a (acceptOf s r c) (refusal r n)
@@ -24,11 +22,3 @@ module _ (s : List ℕ) (r : Record) (c : List ℕ) where
   refused-by n e h =
       let own : List Check = checks (netOf s) (heldIn s r) c in
       sym (by-first false n (refused-clear s (r .marking) (r .firings) (r .given) n e h own) (sym (refused-first s (r .marking) (r .firings) (r .given) n e h own)))
-
-  pub performed : Passed s (r .marking) (r .firings) (r .given) → performOf s r c ≡ outcomeFor s r c
-  performed p = sym (sound-performs s (p .accepted) r c (p .sound))
-
--- a record that passes 1 to 10 is sound
-pub sound-of : (s : List ℕ) (r : Record) → Passed s (r .marking) (r .firings) (r .given) → Sound s r
-unfolding recordOf
-sound-of s r p = record { accepted = p .accepted; sound = p .sound; form = λ i. record { marking = p .laid-out .0 i; firings = p .laid-out .1 i; given = r .given } }

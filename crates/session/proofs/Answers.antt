@@ -3,35 +3,24 @@
 use mathlib.Core.Path.{_≡_, refl, sym, _∙_, ap}
 use mathlib.Core.Bool.{Bool, true, false, not}
 use mathlib.Core.List.{List, _∷_}
-use Prim.Native.Nat.{ℕ, _<_}
+use Prim.Native.Nat.{ℕ}
 use lib.Dec.{eqb, ltb}
 use borrow.Author.Tests.{eqb-true}
 use Rattle.causal.proofs.Tests.{test}
 use Rattle.net.specs.Tests.{pick, all}
 use Rattle.net.specs.Checks.{Check, check, clear, first}
-use Rattle.net.specs.Journal.{Answer, fired, undone, refused, kindOf, transitionNamed, keyNamed, fireReply, undoReply, checks, fireChecks, undoChecks}
+use Rattle.net.specs.Journal.{kindOf, transitionNamed, keyNamed, fireReply, undoReply, checks, fireChecks, undoChecks}
 use Rattle.net.proofs.Tests.{all-append}
 use Rattle.format.specs.NetOf.{netOf}
 use Rattle.sheet.specs.Checks.{sheetChecks}
 use Rattle.sheet.proofs.Order.{clear-first}
-use Rattle.net.specs.declared.Key.{Key}
-use Rattle.session.specs.declared.Answer as S
+use Rattle.commands.specs.declared.Answer as S
 use Rattle.session.specs.declared.Record.{Record}
 use Rattle.session.specs.declared.Outcome.{Outcome}
 use Rattle.session.specs.Records.{heldIn, soundFor}
-use Rattle.session.specs.Commands.{refusal, answerOf, keyOf, wordOf, valueOf, valueBound, heardOf, answerNumber, outcomeOf, acceptOf, commandChecks, outcomeFor}
+use Rattle.session.specs.Commands.{refusal, outcomeOf, acceptOf, commandChecks, outcomeFor}
+use Rattle.commands.specs.Answers.{answerNumber}
 use Rattle.sound.proofs.Refusing.{sheet-positive}
-
--- ---- the word and the value tell the answer
-
-pub heard-back : (a : Answer) → heardOf (wordOf (answerOf a)) (valueOf (answerOf a) (keyOf a)) ≡ a
-heard-back (fired k) = refl
-heard-back (undone k) = refl
-heard-back (refused n) = refl
-
--- what is said of an answer that is x
-pub value-said : (a x : S.Answer) (k : Key) (v : ℕ) → a ≡ x → v ≡ valueOf x k → v < valueBound x → (v ≡ valueOf a k) × (v < valueBound a)
-value-said a x k v e h l = rw e (h, l)
 
 -- ---- the numbers of all checks of a command
 

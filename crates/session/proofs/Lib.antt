@@ -1,12 +1,4 @@
 -- Laws of commands on a record.
-pub mod Decoding
-pub mod Performing
-pub mod Forms
-pub mod Sounds
-pub mod Places
-pub mod Fits
-pub mod Fires
-pub mod Undoes
 pub mod Steps
 pub mod Stays
 pub mod Turns
@@ -16,4 +8,5 @@ pub mod Begins
 pub mod Answers
 pub mod Lending
 pub mod Listing
+pub mod Asking
 pub mod Blocks

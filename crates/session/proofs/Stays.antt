@@ -3,39 +3,54 @@
 use mathlib.Core.Path.{_≡_, sym, _∙_, ap, subst}
 use mathlib.Core.List.{List}
 use Prim.Native.Nat.{ℕ}
-use Rattle.net.specs.Journal.{Journal, act}
+use Rattle.net.specs.Journal.{act}
+use Rattle.marking.specs.declared.Marking.{Marking}
+use Rattle.firings.specs.declared.Firings.{Firings}
+use Rattle.commands.specs.Doing.{Did}
+use Rattle.commands.specs.declared.Done.{Done}
 use Rattle.net.proofs.Journal.{Held, act-held}
 use Rattle.format.specs.NetOf.{netOf}
+use Rattle.sound.proofs.Holds.{rule, held}
 use Rattle.tally.specs.Counts.{countedOf}
 use Rattle.tally.specs.declared.Tally.{Tally}
 use Rattle.session.specs.Records.{heldIn, recordOf, Sound}
-use Rattle.session.specs.Commands.{wordOf, valueOf, outcomeOf, performOf, outcomeFor, commandOf}
+use Rattle.session.specs.Commands.{outcomeOf, performOf, outcomeFor, commandOf}
+use Rattle.commands.specs.Answers.{wordOf, valueOf}
 use Rattle.session.specs.declared.Record.{Record}
 use Rattle.session.specs.declared.Outcome.{Outcome}
-use Rattle.session.proofs.Steps.{sound-performs, held-back, held-soundFor, step}
-use Rattle.session.proofs.Sounds.{rule, few, held}
+use Rattle.session.proofs.Steps.{sound-performs, held-sound, step}
 use Rattle.session.specs.Lists.{StepGives}
 use Rattle.session.specs.declared.run.Stepped.{Stepped}
 
 module _ (s : List ℕ) (r : Record) (S : Sound s r) where
-  -- the record of a held journal is sound
-  held-stays : (j : Journal) → Held (netOf s) j → Sound s (recordOf j)
-  held-stays j H = record {
-    accepted = S .accepted;
-    sound = held-soundFor s (S .accepted) (rule s r S) (few s r S) j H;
-    form = ap recordOf (sym (held-back s (S .accepted) (rule s r S) (few s r S) j H));
-  }
+  holds : Held (netOf s) (heldIn s r)
+  holds = held s (r .marking) (r .firings) (r .given) S
+
+  -- the record is laid out as the journal that it holds
+  laid-out : r ≡ recordOf (heldIn s r)
+  unfolding recordOf
+  laid-out = λ i. record { marking = S .laid-out .0 i; firings = S .laid-out .1 i; given = r .given }
 
   -- a command does to the record what it does to the journal
   acts : (c : List ℕ) → outcomeFor s r c ≡ outcomeOf (act (netOf s) (heldIn s r) c)
-  acts c = ap (λ (x : Record). outcomeFor s x c) (S .form) ∙ step s (S .accepted) (rule s r S) (few s r S) (heldIn s r) c (held s r S)
+  acts c = ap (λ (x : Record). outcomeFor s x c) laid-out ∙ step s (S .accepted) (heldIn s r) c holds
 
   -- the checks of the sheet and of the record need not be made again
   pub performs : (c : List ℕ) → performOf s r c ≡ outcomeFor s r c
   performs c = sym (sound-performs s (S .accepted) r c (S .sound))
 
+  -- what a command in place gives, put together, is the outcome
+  pub did-performs : (c : List ℕ) (d : Done) (m : Marking) (f : Firings) → Did (act (netOf s) (heldIn s r) c) d m f
+      → record { answer = d .answer; key = d .key; session = record { marking = m; firings = f; given = d .given } } ≡ performOf s r c
+  unfolding recordOf
+  did-performs c d m f D =
+      let o : record { answer = d .answer; key = d .key; session = record { marking = m; firings = f; given = d .given } } ≡ outcomeOf (act (netOf s) (heldIn s r) c) =
+      λ i. record { answer = D .answer i; key = D .key i; session = record { marking = D .marking i; firings = D .firings i; given = D .given i } } in
+      o ∙ sym (performs c ∙ acts c)
+
   pub outcome-sound : (c : List ℕ) → Sound s (outcomeFor s r c .session)
-  outcome-sound c = subst (λ (o : Outcome). Sound s (o .session)) (sym (acts c)) (held-stays (act (netOf s) (heldIn s r) c .journal) (act-held (netOf s) (rule s r S) (heldIn s r) c (held s r S)))
+  outcome-sound c = subst (λ (o : Outcome). Sound s (o .session)) (sym (acts c))
+      (held-sound s (S .accepted) (act (netOf s) (heldIn s r) c .journal) (act-held (netOf s) (rule s (r .marking) (r .firings) (r .given) S) (heldIn s r) c holds))
 
   pub sound-stays : (c : List ℕ) → Sound s (performOf s r c .session)
   sound-stays c = subst (λ (o : Outcome). Sound s (o .session)) (sym (performs c)) (outcome-sound c)

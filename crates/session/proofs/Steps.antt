@@ -3,31 +3,24 @@
 use mathlib.Core.Path.{_≡_, refl, _∙_, ap}
 use mathlib.Core.Bool.{Bool, true, false, not, _&&_}
 use mathlib.Core.List.{List, [], _∷_, _++_, map}
-use Prim.Native.Nat.{ℕ, _≤_}
+use Prim.Native.Nat.{ℕ}
 use lib.Dec.{eqb}
-use Rattle.net.specs.Limits.{maxBases}
 use Rattle.net.specs.Tests.{pick}
-use Rattle.net.specs.Rules.{netRule}
 use Rattle.net.specs.Checks.{Check, check, clear, first}
 use Rattle.net.specs.Journal.{Journal, kindOf, transitionNamed, keyNamed, fireReply, undoReply, refuse, checks, act, play, answers, begin}
-use Rattle.net.specs.History.{sound}
 use Rattle.causal.proofs.Tests.{both}
-use Rattle.net.proofs.Tests.{and-i}
 use Rattle.net.proofs.Checks.{clear-append}
 use Rattle.net.proofs.Journal.{Held, act-held, begin-held}
-use Rattle.net.proofs.History.{held-sound}
-use Rattle.format.specs.Parts.{basesOf}
 use Rattle.format.specs.NetOf.{netOf}
 use Rattle.sheet.specs.Checks.{sheetChecks}
-use Rattle.sound.specs.Soundness.{formed, soundIn}
+use Rattle.sheet.proofs.Accepted.{promised}
+use Rattle.sound.proofs.Fits as Fits
 use Rattle.tally.specs.declared.Tally.{Tally}
-use Rattle.session.specs.Records.{heldIn, recordOf, soundFor}
+use Rattle.session.specs.Records.{heldIn, recordOf, soundFor, Sound}
 use Rattle.session.specs.declared.Record.{Record}
-use Rattle.session.proofs.Forms.{FitsRecord, journal-back, record-form}
 use Rattle.session.specs.Commands.{refusal, outcomeOf, acceptOf, performOf, Result, outcomeFor, commandOf, freshOf}
 use Rattle.session.specs.Runs.{answered, Session, runOf}
 use Rattle.session.specs.declared.Outcome.{Outcome}
-use Rattle.session.proofs.Fits.{held-fits}
 
 -- ---- the first check of two lists
 
@@ -56,27 +49,19 @@ outcome-is s r t c = refl
 
 -- ---- the record of a journal
 
-module _ (s : List ℕ) (accepted : clear (sheetChecks s) ≡ true) (ok : netRule (netOf s) ≡ true) (few : basesOf s ≤ maxBases) where
-  bases-of : netOf s .bases ≡ basesOf s
-  unfolding netOf
-  bases-of = refl
-
-  fits : (j : Journal) → Held (netOf s) j → FitsRecord (basesOf s) j
-  unfolding netOf
-  fits j H = held-fits (netOf s) ok few j H
-
+module _ (s : List ℕ) (accepted : clear (sheetChecks s) ≡ true) where
   pub held-back : (j : Journal) → Held (netOf s) j → heldIn s (recordOf j) ≡ j
-  held-back j H = journal-back (basesOf s) j (fits j H)
+  unfolding recordOf
+  held-back j H = Fits.held-back s accepted j H
 
-  pub held-soundFor : (j : Journal) → Held (netOf s) j → soundFor s (recordOf j) ≡ true
-  unfolding soundIn
-  held-soundFor j H = and-i (formed (basesOf s) (recordOf j .marking) (recordOf j .firings)) (sound (netOf s) (heldIn s (recordOf j)))
-      (record-form (basesOf s) j (fits j H)) (ap (sound (netOf s)) (held-back j H) ∙ held-sound (netOf s) j H)
+  pub held-sound : (j : Journal) → Held (netOf s) j → Sound s (recordOf j)
+  unfolding recordOf
+  held-sound j H = Fits.held-passed s accepted j H
 
   -- a command on the record of a journal gives the record of the journal after it, and the journal's answer
   pub step : (j : Journal) (c : List ℕ) → Held (netOf s) j → outcomeFor s (recordOf j) c ≡ outcomeOf (act (netOf s) j c)
   unfolding performOf
-  step j c H = sound-performs s accepted (recordOf j) c (held-soundFor j H)
+  step j c H = sound-performs s accepted (recordOf j) c (held-sound j H .sound)
       ∙ ap (λ (h : Journal). pick (clear (checks (netOf s) h c)) (outcomeOf (pick (eqb (kindOf c) 1) (fireReply (netOf s) h (transitionNamed c)) (undoReply (netOf s) h (keyNamed h c)))) (refusal (recordOf j) (first (checks (netOf s) h c)))) (held-back j H)
       ∙ by-checks (clear (checks (netOf s) j c))
     where
@@ -96,7 +81,7 @@ module _ (s : List ℕ) (accepted : clear (sheetChecks s) ≡ true) (ok : netRul
   follows (c ∷ cs) j t H =
       let y : Result = commandOf s (recordOf j) t c in
       let e : y .outcome ≡ outcomeOf (act (netOf s) j c) = outcome-is s (recordOf j) t c ∙ step j c H in
-      let ih = follows cs (act (netOf s) j c .journal) (y .tally) (act-held (netOf s) ok j c H) in
+      let ih = follows cs (act (netOf s) j c .journal) (y .tally) (act-held (netOf s) (promised s accepted .rule) j c H) in
       let to : runOf s cs (y .outcome .session) (y .tally) ≡ runOf s cs (recordOf (act (netOf s) j c .journal)) (y .tally) = ap (λ (o : Outcome). runOf s cs (o .session) (y .tally)) e in
       record {
         session = ap (λ (z : Session). z .session) to ∙ ih .session;
@@ -105,4 +90,4 @@ module _ (s : List ℕ) (accepted : clear (sheetChecks s) ≡ true) (ok : netRul
 
   pub follows-fresh : (cs : List (List ℕ)) (t : Tally) → Follows (begin (netOf s)) cs (runOf s cs (freshOf s) t)
   unfolding freshOf
-  follows-fresh cs t = follows cs (begin (netOf s)) t (begin-held (netOf s) ok)
+  follows-fresh cs t = follows cs (begin (netOf s)) t (begin-held (netOf s) (promised s accepted .rule))

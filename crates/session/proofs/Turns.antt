@@ -13,7 +13,8 @@ use Rattle.command_list.specs.Commands.{howMany, commandAt, commandsIn}
 use Rattle.tally.specs.declared.Tally.{Tally}
 use Rattle.session.specs.declared.Record.{Record}
 use Rattle.session.specs.Records.{Sound}
-use Rattle.session.specs.Commands.{wordOf, valueOf, Result, commandOf}
+use Rattle.session.specs.Commands.{Result, commandOf}
+use Rattle.commands.specs.Answers.{wordOf, valueOf}
 use Rattle.session.specs.Runs.{Answered, Session, runOf}
 use Rattle.session.proofs.Stays.{command-sound}
 use Rattle.session.specs.declared.run.Stepped.{Stepped}

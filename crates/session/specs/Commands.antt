@@ -7,9 +7,7 @@ use lib.Dec.{eqb}
 use Rattle.net.specs.Tests.{pick}
 use Rattle.net.specs.Checks.{Check, clear, first}
 use Rattle.net.specs.Journal as J
-use Rattle.net.specs.Journal.{key, kindOf, numberOf, unreadable, transitionNamed, keyNamed, fireChecks, undoChecks, fireReply, undoReply, begin, checks}
-use Rattle.net.specs.declared.Key.{Key}
-use Rattle.net.specs.declared.Transition.{Transition}
+use Rattle.net.specs.Journal.{key, kindOf, transitionNamed, keyNamed, fireReply, undoReply, begin, checks}
 use Rattle.format.specs.NetOf.{netOf}
 use Rattle.sheet.specs.Checks.{sheetChecks}
 use Rattle.sound.specs.Soundness.{checksIn}
@@ -17,11 +15,8 @@ use Rattle.tally.specs.Counts.{countedOf}
 use Rattle.tally.specs.declared.Tally.{Tally}
 use Rattle.session.specs.Records.{heldIn, recordOf}
 use Rattle.session.specs.declared.Record.{Record}
-use Rattle.session.specs.declared.Command.the-variants.{Fire, UndoLast, Undo}
-use Rattle.session.specs.declared.Decoded.{Decoded}
-use Rattle.session.specs.declared.Decoded.the-variants.{Given, Unreadable}
-use Rattle.session.specs.declared.Answer.{Answer}
-use Rattle.session.specs.declared.Answer.the-variants.{Fired, Undone, Refused}
+use Rattle.commands.specs.Answers.{answerOf, keyOf, wordOf, answerNumber}
+use Rattle.commands.specs.declared.Answer.the-variants.{Refused}
 use Rattle.session.specs.declared.Outcome.{Outcome}
 use Rattle.session.specs.declared.StartAnswer.{StartAnswer}
 use Rattle.session.specs.declared.StartAnswer.the-variants.{Started, NotStarted}
@@ -46,57 +41,11 @@ abbrev pub startNumber : StartAnswer → ℕ
 startNumber Started = 0
 startNumber (NotStarted n) = n
 
--- ---- Decoding
-
--- What the kind and the number say (01, commands): kind 1 fires a transition, kind 2 takes back the last firing and has
--- number 0, kind 3 takes back a firing by its key.
-abbrev pub decodedOf : List ℕ → Decoded
-decodedOf c = pick (unreadable c) Unreadable
-    (Given (pick (eqb (kindOf c) 1) (Fire (transitionNamed c)) (pick (eqb (kindOf c) 2) UndoLast (Undo (key (numberOf c))))))
-
 -- ---- One command
 
 -- A refused command gives back the very record, and key 0.
 abbrev pub refusal : Record → ℕ → Outcome
 refusal r n = record { answer = Refused n; key = key 0; session = r }
-
--- A journal's answer, by the enum's cases, and its key.
-abbrev pub answerOf : J.Answer → Answer
-answerOf (J.fired k) = Fired
-answerOf (J.undone k) = Undone
-answerOf (J.refused n) = Refused n
-
-abbrev pub keyOf : J.Answer → Key
-keyOf (J.fired k) = k
-keyOf (J.undone k) = k
-keyOf (J.refused n) = key 0
-
--- What an answer says (01, the exam program): a word, and the number after it. Word 0 is fired and 1 undone, with the
--- serial; 2 is refused, with the list's number. The tally's counts stand in the same order, so this one numbering serves
--- the tally, the answer line and a list of answers.
-abbrev pub wordOf : Answer → ℕ
-wordOf Fired = 0
-wordOf Undone = 1
-wordOf (Refused n) = 2
-
-abbrev pub valueOf : Answer → Key → ℕ
-valueOf Fired k = k .0
-valueOf Undone k = k .0
-valueOf (Refused n) k = n
-
--- a serial has 16 bits, a refusal's number 8
-abbrev pub valueBound : Answer → ℕ
-valueBound Fired = 65536
-valueBound Undone = 65536
-valueBound (Refused n) = 256
-
--- The journal's answer that a word and a value say: so no two answers say the same (proofs/Answers).
-abbrev pub heardOf : ℕ → ℕ → J.Answer
-heardOf word value = pick (eqb word 0) (J.fired (key value)) (pick (eqb word 1) (J.undone (key value)) (J.refused value))
-
--- Document 01's number of each answer: the list's number where it says refused, 0 where the command is accepted.
-abbrev pub answerNumber : Answer → ℕ
-answerNumber a = pick (eqb (wordOf a) 2) (valueOf a (key 0)) 0
 
 -- A journal's reply, as an outcome.
 abbrev pub outcomeOf : J.Reply → Outcome
@@ -105,14 +54,6 @@ outcomeOf y = record { answer = answerOf (y .answer); key = keyOf (y .answer); s
 -- What an accepted command does: what it does to the journal that the record holds.
 abbrev pub acceptOf : List ℕ → Record → List ℕ → Outcome
 acceptOf s r c = outcomeOf (pick (eqb (kindOf c) 1) (fireReply (netOf s) (heldIn s r) (transitionNamed c)) (undoReply (netOf s) (heldIn s r) (keyNamed (heldIn s r) c)))
-
--- A firing: 12 to 18 in order, or the journal's firing.
-unfoldable pub fireOutcome : List ℕ → Record → Transition → Outcome
-fireOutcome s r t = pick (clear (fireChecks (netOf s) (heldIn s r) t)) (outcomeOf (fireReply (netOf s) (heldIn s r) t)) (refusal r (first (fireChecks (netOf s) (heldIn s r) t)))
-
--- A taking back: 19 or 20, or the journal's taking back.
-unfoldable pub undoOutcome : List ℕ → Record → Key → Outcome
-undoOutcome s r k = pick (clear (undoChecks (heldIn s r) k)) (outcomeOf (undoReply (netOf s) (heldIn s r) k)) (refusal r (first (undoChecks (heldIn s r) k)))
 
 -- A command on a sound record and an accepted sheet: 21, or 11 to 20 in order.
 unfoldable pub performOf : List ℕ → Record → List ℕ → Outcome

@@ -3,6 +3,7 @@ pub mod Records
 pub mod Commands
 pub mod Lent
 pub mod Live
+pub mod Ways
 pub mod Runs
 pub mod Lists
 pub mod Block

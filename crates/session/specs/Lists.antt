@@ -10,8 +10,9 @@ use Rattle.net.specs.Tests.{pick, table}
 use Rattle.command_list.specs.Commands.{commandAt, commandsIn}
 use Rattle.tally.specs.declared.Tally.{Tally}
 use Rattle.session.specs.declared.Record.{Record}
-use Rattle.session.specs.declared.Answer.{Answer}
-use Rattle.session.specs.Commands.{wordOf, valueOf, answerNumber, Result}
+use Rattle.commands.specs.declared.Answer.{Answer}
+use Rattle.session.specs.Commands.{Result}
+use Rattle.commands.specs.Answers.{wordOf, valueOf, answerNumber}
 use Rattle.session.specs.Runs.{Answered, Session, runOf}
 use Rattle.session.specs.declared.run.Stepped.{Stepped}
 

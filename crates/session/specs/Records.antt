@@ -1,16 +1,13 @@
 -- The session record and the journal (01, commands, record, tally), each as the other has it; and soundness, refusal 10.
 -- Definitions only.
-use mathlib.Core.Path.{_≡_}
-use mathlib.Core.Bool.{Bool, true}
+use mathlib.Core.Bool.{Bool}
 use mathlib.Core.List.{List}
 use Prim.Native.Nat.{ℕ}
-use Rattle.net.specs.Checks.{clear}
 use Rattle.net.specs.Journal.{Journal}
 use Rattle.format.specs.Parts.{basesOf}
-use Rattle.sheet.specs.Checks.{sheetChecks}
 use Rattle.marking.specs.Form.{laid}
 use Rattle.firings.specs.Lines.{firingsOf}
-use Rattle.sound.specs.Soundness.{journalIn, soundIn}
+use Rattle.sound.specs.Soundness.{journalIn, soundIn, Passed}
 use Rattle.session.specs.declared.Record.{Record}
 
 -- the journal that a record holds, on a sheet
@@ -27,7 +24,5 @@ abbrev pub soundFor : List ℕ → Record → Bool
 soundFor s r = soundIn s (r .marking) (r .firings) (r .given)
 
 -- What an inner command asks: an accepted sheet, a sound record, and nothing in its arrays but what it holds.
-pub record Sound (s : List ℕ) (r : Record) : Type 0 where
-  pub accepted : clear (sheetChecks s) ≡ true
-  pub sound : soundFor s r ≡ true
-  pub form : r ≡ recordOf (heldIn s r)
+abbrev pub Sound : List ℕ → Record → Type 0
+Sound s r = Passed s (r .marking) (r .firings) (r .given)

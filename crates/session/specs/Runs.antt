@@ -6,8 +6,9 @@ use Rattle.net.specs.Journal as J
 use Rattle.net.specs.declared.Key.{Key}
 use Rattle.tally.specs.declared.Tally.{Tally}
 use Rattle.session.specs.declared.Record.{Record}
-use Rattle.session.specs.Commands.{answerOf, keyOf, Result, commandOf}
-use Rattle.session.specs.declared.Answer.{Answer}
+use Rattle.session.specs.Commands.{Result, commandOf}
+use Rattle.commands.specs.Answers.{answerOf, keyOf}
+use Rattle.commands.specs.declared.Answer.{Answer}
 
 -- An answer as a list of them keeps it.
 pub record Answered : Type 0 where

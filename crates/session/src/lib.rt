@@ -1,24 +1,21 @@
 // Commands on the session record (document 01, commands, record, tally): the record goes in by value and comes out.
-// A customer's command checks sheet and record first; what is in place (in_place, run) asks for a sound record.
+// A customer's command checks sheet and record first; `run` asks for a sound record.
 pub mod block;
-mod in_place;
 mod live;
 pub mod run;
+mod ways;
 
 ghost use mathlib.Core.Path.{_≡_};
-ghost use Prim.Native.Nat.{_<_};
 ghost use Rattle.session.specs.Records.{Sound};
-ghost use Rattle.session.specs.Commands.{decodedOf, wordOf, valueOf, valueBound, refusal, performOf, outcomeFor, Commanded};
-ghost use Rattle.session.specs.Lent.{refusedIn};
+ghost use Rattle.session.specs.Commands.{refusal, performOf, outcomeFor, Commanded};
+use commands::Answer;
+use commands::in_place::perform_in;
+use commands::word_of;
 use firings::Firings;
-use format::byte_at;
-use format::word_at;
-use in_place::perform_in;
 use labels::label_in;
 use marking::Marking;
 use net::Key;
 use net::MAX_BASES;
-use net::Transition;
 use sound::record_refusal;
 use tally::Tally;
 
@@ -28,26 +25,6 @@ pub struct Record {
     pub marking: Marking,
     pub firings: Firings,
     pub given: Key,
-}
-
-// A command that can be read.
-enum Command {
-    Fire(Transition),
-    UndoLast,
-    Undo(Key),
-}
-
-// What three bytes say.
-enum Decoded {
-    Given(Command),
-    Unreadable,
-}
-
-// The answer to a command; Refused has the number of document 01's list.
-pub enum Answer {
-    Fired,
-    Undone,
-    Refused(u8),
 }
 
 // The answer, the key of the firing (0 where the command is refused), and the record after the command.
@@ -68,77 +45,10 @@ pub struct Start {
     pub session: Record,
 }
 
-// What the first three bytes say. Nothing after them is read; bytes that are not there read as 0.
-fn decode(bytes: &[u8]) -> Decoded
-    ensures { λ r. ⌜ r ≡ decodedOf (now (bytes .entry)) ⌝ }
-{
-    let kind = byte_at(bytes, 0);
-    let number = word_at(bytes, 1) as u16;
-    if kind == 1 {
-        return Decoded::Given(Command::Fire(Transition(number)));
-    }
-    if kind == 3 {
-        return Decoded::Given(Command::Undo(Key(number)));
-    }
-    if kind != 2 {
-        return Decoded::Unreadable;
-    }
-    if number != 0 {
-        return Decoded::Unreadable;
-    }
-    Decoded::Given(Command::UndoLast)
-}
-
-// The word that an answer says, which is also the tally's count that it adds to: 0 fired, 1 undone, 2 refused.
-pub fn word_of(a: Answer) -> u8
-    ensures { λ r. ⌜ r ≡ wordOf a ⌝ }
-{
-    match a {
-        Answer::Fired => 0,
-        Answer::Undone => 1,
-        Answer::Refused(_) => 2,
-    }
-}
-
-// The number after the word: the key, or the refusal's number.
-pub fn value_of(a: Answer, key: Key) -> u16
-    ensures { λ r. ⌜ r ≡ valueOf a key ⌝ }
-    ensures { λ r. ⌜ r < valueBound a ⌝ }
-{
-    match a {
-        Answer::Fired => key.0,
-        Answer::Undone => key.0,
-        Answer::Refused(n) => n as u16,
-    }
-}
-
 // An outcome, and the tally after it.
 pub struct Counted {
     pub outcome: Outcome,
     pub tally: Tally,
-}
-
-// What a command in place gives: the answer, the key (0 where it is refused), how many bonds and live firings there are then, and
-// the highest key given.
-pub struct Done {
-    pub answer: Answer,
-    pub key: Key,
-    pub count: usize,
-    pub live: usize,
-    pub given: Key,
-}
-
-// A refused command changes nothing, and has key 0.
-fn refused_in(n: u8, count: usize, live: usize, given: Key) -> Done
-    ensures { λ r. ⌜ r ≡ refusedIn n count live given ⌝ }
-{
-    Done {
-        answer: Answer::Refused(n),
-        key: Key(0),
-        count: count,
-        live: live,
-        given: given,
-    }
 }
 
 impl Record {

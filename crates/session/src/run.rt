@@ -1,6 +1,5 @@
 // A whole list of commands, given as bytes, on a sound record: each is performed once, and the session is not replayed.
 // The answers go as numbers into two lent slices, from entry 0 on: a word and a value each.
-ghost use mathlib.Core.Path.{_≡_};
 ghost use Prim.Native.Nat.{_<_, _≤_};
 ghost use lib.ListN.{length};
 ghost use Rattle.bonds.specs.Ends.{bondsIn};
@@ -11,10 +10,10 @@ ghost use Rattle.session.specs.Commands.{commandOf};
 ghost use Rattle.session.specs.Lent.{recordAt};
 ghost use Rattle.session.specs.Lists.{ranOf, StepGives, RunGives};
 use crate::Record;
-use crate::in_place::perform_in;
-use crate::value_of;
-use crate::word_of;
 use command_list::command_at;
+use commands::in_place::perform_in;
+use commands::value_of;
+use commands::word_of;
 use firings::Firings;
 use labels::label_in;
 use marking::Marking;

@@ -5,8 +5,6 @@
 ghost use Prim.Native.Nat.{_≤_};
 use crate::compare::differs;
 use crate::counts::BLOCKS;
-use crate::counts::differing;
-use crate::counts::more;
 use crate::input::size_of;
 use crate::play::begun;
 use crate::play::given;
@@ -15,8 +13,9 @@ use case_tools::bytes::byte;
 use case_tools::bytes::put_all;
 use generated::commands::command_byte;
 use generated::commands::command_of;
+use generated::counts::differing;
+use generated::counts::more;
 use generated::rows::part;
-use oracle::STATE;
 use oracle::sets::get;
 use oracle::sets::put;
 use session::Counted;
@@ -174,10 +173,6 @@ fn handed_in(
     }
 }
 
-fn zeros() -> [u64; STATE] {
-    [0; STATE]
-}
-
 // How many commands a block has: by lot, as many as the row says at most.
 fn commands_of(w: &[u64], seed: u64) -> u64
     ensures { λ r. ⌜ (1 ≤ r) × (r ≤ 1000) ⌝ }
@@ -198,7 +193,7 @@ fn block_length(n: u64, seed: u64) -> usize
 pub fn generated_block(c: &mut [u64], sheet: &[u8], w: &[u64], seed: u64) {
     let mut block = [0u8; 3000];
     let mut answers = [0u64; MOST];
-    let mut s = zeros();
+    let mut s = oracle::zeros();
     let n = commands_of(w, seed);
     let length = block_length(n, seed);
     let tally = get(w, 6) % 65536;

@@ -1,5 +1,7 @@
 // What is counted of sessions on both engines, in a lent slice of words: commands, differences, answers, and how often the rarer
-// things were met. The first difference of a group is kept, so that it can be found again.
+// things were met, beside those of every program of cases (generated, counts).
+use generated::counts::RUN;
+use generated::counts::more;
 use oracle::FIRED;
 use oracle::REFUSED;
 use oracle::UNDONE;
@@ -10,7 +12,6 @@ use oracle::reader::count;
 use oracle::reader::in_bonds;
 use oracle::sets::get;
 use oracle::sets::less;
-use oracle::sets::put;
 use oracle::slot_of;
 use oracle::tally_at;
 use oracle::transition_at;
@@ -28,25 +29,8 @@ const MIDDLE: usize = 15;
 // Bytes of all outputs.
 pub const BYTES: usize = 24;
 
-// Of the group: how many commands or inputs were run, and how many differed.
-pub const RUN: usize = 31;
-
-pub const DIFFERED: usize = 32;
-
 // Blocks.
 pub const BLOCKS: usize = 30;
-
-// The first that differed: the seed, the command's number from 1 or the byte's from 0, ours, the second engine's, and what
-// differs.
-pub const FIRST: usize = 25;
-
-// So many more, where a thing is so. Counts are taken below 2^32.
-pub fn more(c: &mut [u64], at: usize, n: u64, there: bool) {
-    let old = get(c, at) % 4294967296;
-    if there {
-        put(c, at, old + n % 4294967296);
-    }
-}
 
 fn is_full_size(sheet: &[u8]) -> bool {
     (count(sheet, 1) == 64) & ((count(sheet, 2) == 64) & (count(sheet, 3) == 64))
@@ -114,21 +98,4 @@ pub fn count_command(c: &mut [u64], sheet: &[u8], s: &[u64], reply: u64) {
     more(c, RUN, 1, true);
     more(c, row_of(reply), 1, true);
     count_met(c, met);
-}
-
-fn keep(c: &mut [u64], seed: u64, number: u64, ours: u64, theirs: u64, what: u64) {
-    put(c, FIRST, seed);
-    put(c, FIRST + 1, number);
-    put(c, FIRST + 2, ours);
-    put(c, FIRST + 3, theirs);
-    put(c, FIRST + 4, what);
-}
-
-// One more that differed, which is kept where it is the first.
-pub fn differing(c: &mut [u64], seed: u64, number: u64, ours: u64, theirs: u64, what: u64) {
-    let first = get(c, DIFFERED) == 0;
-    more(c, DIFFERED, 1, true);
-    if first {
-        keep(c, seed, number, ours, theirs, what);
-    }
 }

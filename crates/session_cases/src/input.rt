@@ -10,7 +10,6 @@ use case_tools::bytes::put_all;
 use generated::commands::command_byte;
 use generated::commands::command_of;
 use generated::rows::part;
-use oracle::STATE;
 
 // Where the text begins.
 pub const TEXT: usize = 40000;
@@ -76,10 +75,6 @@ pub fn input_length(sheet: &[u8], seed: u64, n: u64) -> usize
     }
 }
 
-fn zeros() -> [u64; STATE] {
-    [0; STATE]
-}
-
 // The input of a session of n commands on an accepted sheet, and its text; where the text ends. Above `room` live firings most
 // commands take back.
 pub fn make(buf: &mut [u8], sheet: &[u8], seed: u64, n: u64, room: u64) -> usize
@@ -89,7 +84,7 @@ pub fn make(buf: &mut [u8], sheet: &[u8], seed: u64, n: u64, room: u64) -> usize
     put(buf, 0, length);
     put(buf, 1, length / 256);
     put_all(buf, 2, sheet);
-    let mut s = zeros();
+    let mut s = oracle::zeros();
     oracle::begin(sheet, &mut s, 0);
     let at = commands(buf, sheet, &mut s, seed, n, room);
     put_closing(buf, at, &s, byte(sheet, 2) as usize)

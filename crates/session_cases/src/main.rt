@@ -17,10 +17,7 @@ use blocks::generated_block;
 use case_tools::bytes::put_all;
 use case_tools::print::print_count;
 use case_tools::print::print_floor;
-use case_tools::print::print_run;
-use counts::DIFFERED;
-use counts::FIRST;
-use counts::RUN;
+use generated::counts::print_group;
 use generated::plan::plan_of;
 use generated::plan::varied;
 use generated::rows::find;
@@ -28,7 +25,6 @@ use generated::rows::part;
 use generated::rows::read_numbers;
 use generated::sheets::write_sheet;
 use oracle::sets::get;
-use oracle::sets::put;
 use outputs::generated_output;
 use outputs::print_limit;
 use outputs::printed;
@@ -79,33 +75,6 @@ fn run_all(c: &mut [u64], w: &[u64], letters: &[u8]) {
     }
 }
 
-fn print_first(c: &[u64]) {
-    print_count(b"    first: seed", get(c, FIRST));
-    print_count(b"    command from 1, or byte from 0", get(c, FIRST + 1));
-    print_count(
-        b"    ours: a byte, or the key, and 65,536 more where undone, or the number and 131,072 more where refused",
-        get(c, FIRST + 2),
-    );
-    print_count(b"    the second engine's, or the text's", get(c, FIRST + 3));
-    print_count(
-        b"    what differs: 1 answer, 2 places, 4 bonds, 8 tally, 16 live list, 32 moved flags, 64 unused entries, 128 output, 256 highest key given",
-        get(c, FIRST + 4),
-    );
-}
-
-// The group's counts, and its first difference where there is one. A row without a name belongs to the next.
-fn print_group(c: &mut [u64], name: &[u8]) {
-    if name.len() == 0 {
-        return;
-    }
-    print_run(name, get(c, RUN), get(c, DIFFERED));
-    if get(c, DIFFERED) != 0 {
-        print_first(c);
-    }
-    put(c, RUN, 0);
-    put(c, DIFFERED, 0);
-}
-
 fn run_group(c: &mut [u64], w: &[u64], letters: &[u8]) {
     if get(w, 1) == 7 {
         printed(c);
@@ -130,7 +99,13 @@ fn run_row(c: &mut [u64], name: &[u8], letters: &[u8], w: &[u64]) {
         return;
     }
     run_group(c, w, letters);
-    print_group(c, name);
+    print_group(
+        c,
+        name,
+        b"    command from 1, or byte from 0",
+        b"    ours: a byte, or the key, and 65,536 more where undone, or the number and 131,072 more where refused",
+        b"    what differs: 1 answer, 2 places, 4 bonds, 8 tally, 16 live list, 32 moved flags, 64 unused entries, 128 output, 256 highest key given",
+    );
 }
 
 fn read_row(c: &mut [u64], line: &[u8]) {

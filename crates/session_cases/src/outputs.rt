@@ -3,14 +3,14 @@
 // the output is, and its end, are printed.
 ghost use Prim.Native.Nat.{_≤_};
 use crate::counts::BYTES;
-use crate::counts::RUN;
-use crate::counts::differing;
-use crate::counts::more;
 use crate::input::TEXT;
 use crate::input::input_length;
 use crate::input::make;
 use case_tools::bytes::byte;
 use case_tools::bytes::put_all;
+use generated::counts::RUN;
+use generated::counts::differing;
+use generated::counts::more;
 use generated::rows::find;
 use generated::rows::part;
 use oracle::sets::get;

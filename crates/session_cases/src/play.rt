@@ -5,24 +5,23 @@
 use crate::compare::differs;
 use crate::counts::SHEETS_REFUSED;
 use crate::counts::count_command;
-use crate::counts::differing;
-use crate::counts::more;
 use case_tools::bytes::byte;
+use commands::Answer;
+use commands::value_of;
+use commands::word_of;
 use generated::commands::command_byte;
 use generated::commands::command_length;
 use generated::commands::command_of;
 use generated::commands::made;
+use generated::counts::differing;
+use generated::counts::more;
 use net::Key;
-use oracle::STATE;
 use oracle::sets::get;
-use session::Answer;
 use session::Counted;
 use session::Outcome;
 use session::Record;
 use session::StartAnswer;
 use session::command_with;
-use session::value_of;
-use session::word_of;
 use session_start::start;
 use tally::Tally;
 
@@ -210,10 +209,6 @@ fn play(
     }
 }
 
-fn zeros() -> [u64; STATE] {
-    [0; STATE]
-}
-
 // Plays on an accepted sheet; a refused one is counted, and no command is given on it.
 pub fn session(c: &mut [u64], sheet: &[u8], w: &[u64], letters: &[u8], seed: u64) {
     let first = start(sheet);
@@ -224,7 +219,7 @@ pub fn session(c: &mut [u64], sheet: &[u8], w: &[u64], letters: &[u8], seed: u64
     };
     let tally = get(w, 6) % 65536;
     let p = begun(first.session, tally as u16);
-    let mut s = zeros();
+    let mut s = oracle::zeros();
     oracle::begin(sheet, &mut s, tally);
     play(p, c, sheet, &mut s, w, letters, seed);
 }

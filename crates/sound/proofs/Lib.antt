@@ -4,3 +4,5 @@ pub mod Keys
 pub mod Tests
 pub mod Given
 pub mod Refusing
+pub mod Holds
+pub mod Fits

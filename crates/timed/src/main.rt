@@ -1,10 +1,13 @@
 // For the measurement (bench/run): runs the commands of its input in each of the ways that its words name, and prints the sum of
 // the keys and the tally for each. Reads what the exam program reads, up to 65,536 bytes.
-// `singly`: each command by the single call; `blocks`: by the block call, 1,000 at a time; `run`: as one list, nothing checked.
-// What stdout has was printed by the plain Rust program there, once for each word.
+// `singly`: each command by the single call; `blocks`: by the block call, 1,000 at a time; `run`: as one list, nothing checked;
+// `way`: as one block, and then ten times the way back to the start places.
+// What stdout has was printed by the plain Rust program there, once for each word but `way`: there it is ten times the sum of the
+// live keys, since all have to go.
 mod blocks;
 mod singly;
 mod sum;
+mod ways;
 
 ghost use Prim.Native.Nat.{_≤_};
 ghost use lib.ListN.{length};
@@ -12,6 +15,7 @@ use blocks::run_blocks;
 use blocks::run_list;
 use format::word_at;
 use singly::run_singly;
+use ways::run_ways;
 
 // Whether the word at i begins with a letter.
 fn begins(i: usize, letter: u8) -> bool {
@@ -32,6 +36,9 @@ fn run_as(i: usize, sheet: &[u8], commands: &[u8])
     }
     if begins(i, b'r') {
         run_list(sheet, commands);
+    }
+    if begins(i, b'w') {
+        run_ways(sheet, commands);
     }
 }
 

@@ -19,7 +19,7 @@ use Rattle.session.specs.Records.{heldIn, recordOf, Sound}
 use Rattle.session.specs.Commands.{recordChecks, commandChecks, freshOf}
 use Rattle.session.specs.Runs.{runOf}
 use Rattle.session.specs.declared.Record.{Record}
-use Rattle.session.proofs.Steps.{held-back, held-soundFor, follows-fresh}
+use Rattle.session.proofs.Steps.{held-back, held-sound, follows-fresh}
 use Rattle.why.specs.Why.{reasonFor, whyOf}
 use Rattle.why.specs.Turned.{Turned}
 use Rattle.why.specs.declared.Reason.{Reason}
@@ -60,14 +60,13 @@ module _ (s : List ℕ) (accepted : clear (sheetChecks s) ≡ true) where
   -- by the journal alone
   pub why-journal : (j : Journal) → Held (netOf s) j → (c : List ℕ) → whyOf s (recordOf j) c ≡ reasonFor (netOf s) j c (first (checks (netOf s) j c))
   why-journal j H c =
-      let P = promised s accepted in
-      sym (why-by s (recordOf j) c _ (sym (first-own s (recordOf j) c accepted (held-soundFor s accepted (P .rule) (P .bases .1) j H))) _ refl)
-      ∙ ap (λ (h : Journal). reasonFor (netOf s) h c (first (checks (netOf s) h c))) (held-back s accepted (P .rule) (P .bases .1) j H)
+      sym (why-by s (recordOf j) c _ (sym (first-own s (recordOf j) c accepted (held-sound s accepted j H .sound))) _ refl)
+      ∙ ap (λ (h : Journal). reasonFor (netOf s) h c (first (checks (netOf s) h c))) (held-back s accepted j H)
 
   -- after commands on a fresh record
   pub why-session : (cs : List (List ℕ)) (t : Tally) (c : List ℕ) → whyOf s (runOf s cs (freshOf s) t .session) c
       ≡ (let j = play (netOf s) cs (begin (netOf s)) in reasonFor (netOf s) j c (first (checks (netOf s) j c)))
   why-session cs t c =
       let P = promised s accepted in
-      ap (λ (r : Record). whyOf s r c) (follows-fresh s accepted (P .rule) (P .bases .1) cs t .session)
+      ap (λ (r : Record). whyOf s r c) (follows-fresh s accepted cs t .session)
       ∙ why-journal (play (netOf s) cs (begin (netOf s))) (played (netOf s) (P .rule) cs) c

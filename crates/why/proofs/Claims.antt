@@ -22,11 +22,12 @@ use Rattle.sheet.specs.Checks.{sheetChecks}
 use Rattle.sheet.proofs.Order.{clear-first}
 use Rattle.firings.proofs.Laid.{mem-at}
 use Rattle.session.specs.Records.{heldIn, soundFor}
-use Rattle.session.specs.Commands.{answerNumber, commandChecks}
+use Rattle.session.specs.Commands.{commandChecks}
+use Rattle.commands.specs.Answers.{answerNumber}
 use Rattle.session.specs.declared.Record.{Record}
 use Rattle.sound.proofs.Refusing.{sheet-positive}
 use Rattle.session.proofs.Answers.{answer-number}
-use Rattle.session.proofs.Places.{place-found}
+use Rattle.undoing.proofs.Places.{place-found}
 use Rattle.reasons.proofs.Named.{away-holds, absent-holds, present-holds, torn-holds}
 use Rattle.why.specs.Why.{noEntry, awayEntry, absentBond, presentBond, tornEntry, partnerOf, laterPlace, laterPart, awayBy, absentBy, presentBy, tornBy, laterBy, reasonFor, whyOf}
 use Rattle.why.specs.Claims.{IsAway, IsAbsent, IsPresent, IsTorn, CameAfter, stepOf, RefusedBy, Named}

@@ -14,26 +14,23 @@ use Rattle.net.specs.Checks.{clear}
 use Rattle.net.specs.Journal.{LiveLine, kindOf, noLine, lineOf, lineKeys, keyNamed, refused, act}
 use Rattle.net.specs.declared.Key.{Key}
 use Rattle.net.proofs.Journal.{Held}
-use Rattle.net.proofs.History.{sound-held}
 use Rattle.net.proofs.Tables.{length-table, getD-table}
-use Rattle.net.proofs.Tests.{and-r}
 use Rattle.format.specs.Parts.{basesOf}
 use Rattle.format.specs.NetOf.{netOf}
 use Rattle.sheet.specs.Checks.{sheetChecks}
 use Rattle.sheet.proofs.Accepted.{promised}
 use Rattle.words.specs.Sets.{setOf}
-use Rattle.firings.specs.Lines.{firingAt, asLine}
+use Rattle.firings.specs.Lines.{firingAt, asLine, firingsOf}
 use Rattle.firings.specs.Search.{keysIn, indexOf}
 use Rattle.firings.specs.declared.Firing.{Firing}
 use Rattle.firings.specs.declared.Firings.{Firings}
 use Rattle.firings.proofs.Search.{keys-of-lines}
-use Rattle.sound.specs.Soundness.{formed, soundIn}
+use Rattle.sound.proofs.Holds.{sound-journal, firings-are}
+use Rattle.sound.proofs.Fits.{run-flags}
 use Rattle.session.specs.Records.{heldIn, soundFor, Sound}
 use Rattle.session.specs.declared.Record.{Record}
-use Rattle.session.proofs.Sounds.{firings-are}
-use Rattle.session.proofs.Fits.{run-flags}
 use Rattle.reasons.specs.Reasons.{inBoth, laterAt, commonAt}
-use Rattle.reasons.proofs.Firsts.{first-most}
+use Rattle.net.proofs.Firsts.{first-most}
 use Rattle.reasons.proofs.Built.{CameLater, built-holds}
 use Rattle.why.specs.Why.{laterPlace, laterPart, laterBy}
 use Rattle.why.specs.declared.Reason.the-variants as Reason
@@ -55,8 +52,7 @@ part-low a b =
 
 module _ (s : List ℕ) (r : Record) (a : clear (sheetChecks s) ≡ true) (h : soundFor s r ≡ true) where
   pub journal-held : Held (netOf s) (heldIn s r)
-  unfolding soundIn
-  journal-held = sound-held (netOf s) (heldIn s r) (and-r (formed (basesOf s) (r .marking) (r .firings)) _ h)
+  journal-held = sound-journal s (r .marking) (r .firings) (r .given) h
 
   -- the firing named came later
   pub came : (c : List ℕ) → act (netOf s) (heldIn s r) c .answer ≡ refused 20
@@ -75,6 +71,9 @@ module _ (s : List ℕ) (r : Record) (c : List ℕ) (S : Sound s r) where
   abbrev f : Firings
   f = r .firings
 
+  laid-out : f ≡ firingsOf ls
+  laid-out = firings-are s (r .marking) (r .firings) (r .given) S
+
   module _ (answer : act (netOf s) (heldIn s r) c .answer ≡ refused 20) (k : Key) (ek : k ≡ named) (i : ℕ) (ei : i ≡ indexOf k (keysIn (f .live) (f .keys))) where
     place-is : i ≡ indexOf named (lineKeys ls)
     place-is = ei ∙ (λ z. indexOf (ek z) (keys-of-lines (basesOf s) f z))
@@ -87,7 +86,7 @@ module _ (s : List ℕ) (r : Record) (c : List ℕ) (S : Sound s r) where
 
     module _ (at : ℕ) (ea : at ≡ laterAt (f .live) (f .moved) i) where
       at-is : at ≡ laterPlace ls named
-      at-is = ea ∙ (λ z. laterAt (firings-are s r S z .live) (firings-are s r S z .moved) (place-is z))
+      at-is = ea ∙ (λ z. laterAt (laid-out z .live) (laid-out z .moved) (place-is z))
 
       pub later-here : at < f .live
       later-here = let h = came s r (S .accepted) (S .sound) c answer .there in let e = at-is in let z = size in omega arith
@@ -95,7 +94,7 @@ module _ (s : List ℕ) (r : Record) (c : List ℕ) (S : Sound s r) where
       module _ (mine other : Firing) (em : mine ≡ firingAt (f .transitions) (f .keys) (f .moved) i) (eo : other ≡ firingAt (f .transitions) (f .keys) (f .moved) at) (p : ℕ) (ep : p ≡ commonAt (mine .moved) (other .moved)) where
         part-is : p ≡ laterPart ls named
         part-is = ep ∙ (λ z. commonAt (em z .moved) (eo z .moved))
-            ∙ (λ z. commonAt (getD (firings-are s r S z .moved) (place-is z) 0) (getD (firings-are s r S z .moved) (at-is z) 0))
+            ∙ (λ z. commonAt (getD (laid-out z .moved) (place-is z) 0) (getD (laid-out z .moved) (at-is z) 0))
 
         key-is : other .key ≡ getD ls (laterPlace ls named) noLine .key
         key-is = ap (λ (x : Firing). x .key) eo

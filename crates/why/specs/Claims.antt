@@ -16,7 +16,7 @@ use Rattle.format.specs.NetOf.{netOf}
 use Rattle.session.specs.Records.{heldIn}
 use Rattle.session.specs.Commands.{outcomeFor}
 use Rattle.session.specs.declared.Record.{Record}
-use Rattle.session.specs.declared.Answer.the-variants.{Refused}
+use Rattle.commands.specs.declared.Answer.the-variants.{Refused}
 use Rattle.why.specs.Why.{whyOf}
 use Rattle.why.specs.declared.Reason.the-variants as Reason
 

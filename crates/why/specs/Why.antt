@@ -4,7 +4,7 @@ use mathlib.Core.List.{List}
 use Prim.Native.Nat.{ℕ}
 use lib.Dec.{eqb, ltb}
 use lib.ListN.{length, getD}
-use Rattle.net.specs.Tests.{pick}
+use Rattle.net.specs.Tests.{pick, firstAt}
 use Rattle.net.specs.Checks.{first}
 use Rattle.net.specs.Net.{Arcs, Marking, Net, bond, place, arcsOf}
 use Rattle.net.specs.Journal.{LiveLine, Journal, key, kindOf, numberOf, noLine, lineKeys, transitionNamed, keyNamed}
@@ -17,7 +17,6 @@ use Rattle.firings.specs.Search.{indexOf}
 use Rattle.session.specs.Records.{heldIn}
 use Rattle.session.specs.Commands.{commandChecks}
 use Rattle.session.specs.declared.Record.{Record}
-use Rattle.reasons.specs.First.{firstAt}
 use Rattle.reasons.specs.Reasons.{awayFrom, absentFrom, presentIn, tornFrom, hasPartner, laterAt, commonAt}
 use Rattle.why.specs.declared.Reason.{Reason}
 use Rattle.why.specs.declared.Reason.the-variants as Reason

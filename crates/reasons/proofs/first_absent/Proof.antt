@@ -12,7 +12,7 @@ use Rattle.format.specs.Arcs.{inCount, nthInBond}
 use Rattle.format.proofs.Loops.{any-on}
 use Rattle.bonds.specs.Ends.{bondsIn}
 use Rattle.reasons.specs.Reasons.{absentFrom}
-use Rattle.reasons.proofs.Firsts.{first-here, first-none}
+use Rattle.net.proofs.Firsts.{first-here, first-none}
 use Rattle.reasons.proofs.first_absent.Statement.{statement}
 use Rattle.reasons.proofs.first_absent.Tie as tie
 

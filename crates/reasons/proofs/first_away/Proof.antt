@@ -11,7 +11,7 @@ use Rattle.net.specs.declared.Entry.{Entry}
 use Rattle.format.specs.Arcs.{entryCount, nthEntry}
 use Rattle.format.proofs.Loops.{any-on}
 use Rattle.reasons.specs.Reasons.{awayFrom}
-use Rattle.reasons.proofs.Firsts.{first-here, first-none}
+use Rattle.net.proofs.Firsts.{first-here, first-none}
 use Rattle.reasons.proofs.first_away.Statement.{statement}
 use Rattle.reasons.proofs.first_away.Tie as tie
 

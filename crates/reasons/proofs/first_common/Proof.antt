@@ -11,7 +11,7 @@ use Rattle.words.specs.Sets.{setOf}
 use Rattle.format.proofs.Loops.{any-on}
 use Rattle.reasons.specs.Reasons.{inBoth}
 use Rattle.reasons.proofs.Tests.{both-by}
-use Rattle.reasons.proofs.Firsts.{first-here, first-none}
+use Rattle.net.proofs.Firsts.{first-here, first-none}
 use Rattle.reasons.proofs.first_common.Statement.{statement}
 use Rattle.reasons.proofs.first_common.Tie as tie
 

@@ -13,7 +13,7 @@ use Rattle.format.proofs.Loops.{any-on}
 use Rattle.bonds.specs.Ends.{bondsIn}
 use Rattle.reasons.specs.Reasons.{presentIn}
 use Rattle.reasons.proofs.Tests.{present-by}
-use Rattle.reasons.proofs.Firsts.{first-here, first-none}
+use Rattle.net.proofs.Firsts.{first-here, first-none}
 use Rattle.reasons.proofs.first_present.Statement.{statement}
 use Rattle.reasons.proofs.first_present.Tie as tie
 

@@ -13,7 +13,7 @@ use Rattle.labels.specs.Labelled.{Parted}
 use Rattle.format.specs.Arcs.{entryCount, nthEntry, arcsIn}
 use Rattle.format.proofs.Loops.{any-on}
 use Rattle.reasons.specs.Reasons.{tornFrom, hasPartner}
-use Rattle.reasons.proofs.Firsts.{first-here, first-none, first-inside, first-outside}
+use Rattle.net.proofs.Firsts.{first-here, first-none, first-inside, first-outside}
 use Rattle.reasons.proofs.first_torn.Statement.{statement}
 use Rattle.reasons.proofs.first_torn.Tie as tie
 

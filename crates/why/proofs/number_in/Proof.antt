@@ -2,7 +2,7 @@
 -- Assumes nothing but the laws of proofs/.
 use borrow.Author.Needs.{needs}
 use mathlib.Core.Path.{ap, sym}
-use Rattle.session.specs.Commands.{answerNumber}
+use Rattle.commands.specs.Answers.{answerNumber}
 use Rattle.why.proofs.number_in.Statement.{statement}
 use Rattle.why.proofs.number_in.Tie as tie
 

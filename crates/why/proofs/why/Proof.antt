@@ -3,7 +3,6 @@
 use borrow.Author.Needs.{needs}
 use mathlib.Core.Path.{_∙_}
 use Rattle.sound.specs.Soundness.{Passed}
-use Rattle.session.proofs.Answering.{sound-of}
 use Rattle.why.proofs.Answers.{why-by, why-sheet, why-record}
 use Rattle.why.proofs.Numbers.{first-own}
 use Rattle.why.proofs.why.Statement.{statement}
@@ -37,7 +36,7 @@ reason-by-requires c κs =
     let d : tie.After-record-refusal = l .before .before in
     let s : tie.Start = start d in
     let p : Passed (s .args .sheet .now) (s .args .r .marking) (s .args .r .firings) (s .args .r .given) = d .record-refusal .ensures .1 (l .if2 .left) in
-    (sound-of (s .args .sheet .now) (s .args .r) p, c .number-of .ensures ∙ first-own (s .args .sheet .now) (s .args .r) (s .args .bytes .now) (p .accepted) (p .sound))
+    (p, c .number-of .ensures ∙ first-own (s .args .sheet .now) (s .args .r) (s .args .bytes .now) (p .accepted) (p .sound))
 
 returns-3 : tie.Need-returns-3
 returns-3 c =

@@ -3,7 +3,7 @@
 use borrow.Author.Needs.{needs}
 use Rattle.sound.proofs.Lines.{placed-fits, placed-ends}
 use Rattle.session.specs.Records.{heldIn}
-use Rattle.session.proofs.Sounds.{placed}
+use Rattle.sound.proofs.Holds.{placed}
 use Rattle.why.proofs.Items.{entries-low, torn-low, pair-is}
 use Rattle.why.proofs.why_torn.Statement.{statement}
 use Rattle.why.proofs.why_torn.Tie as tie
@@ -24,7 +24,7 @@ slice-aggregate-label-in-2 c = search needs
 label-in-requires : tie.Need-label-in-requires
 label-in-requires c κs =
     let s : tie.Start = c .before .before .before .before .before .before .before .before .before .before in
-    let P = placed (s .args .sheet .now) (s .args .r) (s .pre .sound) in
+    let P = placed (s .args .sheet .now) (s .args .r .marking) (s .args .r .firings) (s .args .r .given) (s .pre .sound) in
     let (lo, hi) = placed-fits (s .args .sheet .now) (s .args .r .marking) P in
     ((search needs, lo, hi), placed-ends (s .args .sheet .now) (s .args .r .marking) P)
 

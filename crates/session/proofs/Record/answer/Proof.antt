@@ -2,7 +2,8 @@
 -- Assumes nothing but the laws of proofs/.
 use borrow.Author.Needs.{needs}
 use mathlib.Core.Path.{_∙_}
-use Rattle.session.proofs.Answering.{refused-by, performed, sound-of}
+use Rattle.session.proofs.Answering.{refused-by}
+use Rattle.session.proofs.Stays.{performs}
 use Rattle.session.proofs.Record.answer.Statement.{statement}
 use Rattle.session.proofs.Record.answer.Tie as tie
 
@@ -22,13 +23,13 @@ perform-requires : tie.Need-perform-requires
 perform-requires c κs =
     let d : tie.After-record-refusal = c .before in
     let s : tie.Start = d .before .before .before .before .before .before .before .before .before .before .before .before .before in
-    sound-of (s .args .sheet .now) (s .args .self) (d .record-refusal .ensures .1 (c .if1 .left))
+    d .record-refusal .ensures .1 (c .if1 .left)
 
 returns-2 : tie.Need-returns-2
 returns-2 c =
     let d : tie.After-record-refusal = c .before .before in
     let s : tie.Start = d .before .before .before .before .before .before .before .before .before .before .before .before .before in
-    c .perform .ensures ∙ performed (s .args .sheet .now) (s .args .self) (s .args .bytes .now) (d .record-refusal .ensures .1 (c .before .if1 .left))
+    c .perform .ensures ∙ performs (s .args .sheet .now) (s .args .self) (d .record-refusal .ensures .1 (c .before .if1 .left)) (s .args .bytes .now)
 
 pub answer-spec : {M : Type 1} → statement M
 answer-spec = tie.close (tie.spec record-refusal-requires refused-requires returns perform-requires returns-2)

@@ -46,13 +46,14 @@ use Rattle.tally.proofs.count as count
 use Rattle.tally.proofs.count.Symbol as count-def
 use Rattle.tally.proofs.count.Symbol.{name as #tally·count}
 use Rattle.tally.proofs.count.Met as count-thm
-use Rattle.session.specs.Commands.{wordOf, answerNumber, outcomeFor, commandOf, Commanded}
+use Rattle.session.specs.Commands.{outcomeFor, commandOf, Commanded}
+use Rattle.commands.specs.Answers.{wordOf, answerNumber}
 use Rattle.session.proofs.Answers.{answer-number}
-use Rattle.session.specs.declared.Answer.{Answer}
+use Rattle.commands.specs.declared.Answer.{Answer}
 use Rattle.session.specs.declared.Record.{Record}
 use Rattle.session.specs.declared.Outcome.{Outcome}
-use Rattle.session.proofs.Answer as An
-use Rattle.session.proofs.Answer.Laws as An′
+use Rattle.commands.proofs.Answer as An
+use Rattle.commands.proofs.Answer.Laws as An′
 use Rattle.session.proofs.Record as R
 use Rattle.session.proofs.Record.Laws as R′
 use Rattle.session.proofs.Outcome as O
@@ -61,10 +62,10 @@ use Rattle.session.proofs.Record.answer as answer
 use Rattle.session.proofs.Record.answer.Symbol as answer-def
 use Rattle.session.proofs.Record.answer.Symbol.{name as #answer}
 use Rattle.session.proofs.Record.answer.Met as answer-thm
-use Rattle.session.proofs.word_of as word-of
-use Rattle.session.proofs.word_of.Symbol as word-of-def
-use Rattle.session.proofs.word_of.Symbol.{name as #word-of}
-use Rattle.session.proofs.word_of.Met as word-of-thm
+use Rattle.commands.proofs.word_of as word-of
+use Rattle.commands.proofs.word_of.Symbol as word-of-def
+use Rattle.commands.proofs.word_of.Symbol.{name as #word-of}
+use Rattle.commands.proofs.word_of.Met as word-of-thm
 use Rattle.session.proofs.Record.command.Key.{name as #command}
 use Rattle.session.proofs.Record.command as command
 use Rattle.session.proofs.Record.command.Statement as stated
@@ -240,5 +241,5 @@ command-spec 𝓤 H 𝓜 𝓖 𝓡 =
     (tables 𝓤 H 𝓜 𝓡 code.env .C) (tables 𝓤 H 𝓜 𝓡 code.env .Λ) #command code.function (code.unfolded 𝓤 H 𝓜 𝓡)
     (command-meets 𝓤 H (𝓖 .A) (givenOf 𝓤 H 𝓜 𝓖) (𝓜 .mem) (𝓡 .run) (tablesOf 𝓤 H 𝓜 (tables 𝓤 H 𝓜 𝓡 code.env))
     (cited 𝓤 H (Answers 𝓤 H (𝓖 .A) (𝓜 .mem) (𝓡 .run)) 𝓜 𝓡 code.env #answer answer-def.routine code.calls-session·Record·answer (answer-thm.met 𝓤 H 𝓜 𝓖 𝓡))
-    (cited 𝓤 H (WordOf 𝓤 H (𝓖 .A) (𝓜 .mem) (𝓡 .run)) 𝓜 𝓡 code.env #word-of word-of-def.routine code.calls-session·word-of (word-of-thm.met 𝓤 H 𝓜 𝓖 𝓡))
+    (cited 𝓤 H (WordOf 𝓤 H (𝓖 .A) (𝓜 .mem) (𝓡 .run)) 𝓜 𝓡 code.env #word-of word-of-def.routine code.calls-commands·word-of (word-of-thm.met 𝓤 H 𝓜 𝓖 𝓡))
     (cited 𝓤 H (Count 𝓤 H (𝓖 .A) (𝓜 .mem) (𝓡 .run)) 𝓜 𝓡 code.env #tally·count count-def.routine code.calls-tally·count (count-thm.met 𝓤 H 𝓜 𝓖 𝓡)))

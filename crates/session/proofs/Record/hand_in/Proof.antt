@@ -2,7 +2,6 @@
 -- Assumes nothing but the laws of proofs/.
 use borrow.Author.Needs.{needs}
 use lib.ListN.{length}
-use Rattle.session.proofs.Answering.{sound-of}
 use Rattle.session.proofs.Blocks.{room, turned-away, not-turned, block-ran}
 use Rattle.session.proofs.Record.hand_in.Statement.{statement}
 use Rattle.session.proofs.Record.hand_in.Tie as tie
@@ -39,7 +38,7 @@ run-requires c κs =
     let s : tie.Start = start u in
     let p = not-turned (s .args .sheet .now) (s .args .self) (s .args .t) (s .args .block .now) (s .args .words .now) (s .args .values .now) _ (d .record-refusal .ensures .0) (d .record-refusal .ensures .1) _ (u .block-refusal .ensures) (e .if1 .left) in
     let q = room (s .args .block .now) (length (s .args .words .now)) (length (s .args .values .now)) (p .1) in
-    (sound-of (s .args .sheet .now) (s .args .self) (p .0), q .0, q .1)
+    (p .0, q .0, q .1)
 
 how-many-requires : tie.Need-how-many-requires
 how-many-requires c κs = search needs

@@ -2,7 +2,8 @@
 -- Assumes nothing but the laws of proofs/.
 use borrow.Author.Needs.{needs}
 use Rattle.sound.proofs.Lines.{placed-fits, placed-ends}
-use Rattle.session.proofs.Sounds.{placed}
+use Rattle.sound.proofs.Holds.{placed}
+use Rattle.session.proofs.Stays.{did-performs}
 use Rattle.session.proofs.Record.perform.Statement.{statement}
 use Rattle.session.proofs.Record.perform.Tie as tie
 
@@ -15,7 +16,7 @@ slice-aggregate-label-in-2 c = search needs
 label-in-requires : tie.Need-label-in-requires
 label-in-requires c κs =
     let s : tie.Start = c .before .before .before .before .before .before .before .before .before .before .before .before .before .before in
-    let P = placed (s .args .sheet .now) (s .args .self) (s .pre) in
+    let P = placed (s .args .sheet .now) (s .args .self .marking) (s .args .self .firings) (s .args .self .given) (s .pre) in
     let (lo, hi) = placed-fits (s .args .sheet .now) (s .args .self .marking) P in
     ((search needs, lo, hi), placed-ends (s .args .sheet .now) (s .args .self .marking) P)
 
@@ -23,7 +24,9 @@ perform-in-requires : tie.Need-perform-in-requires
 perform-in-requires c κs = search needs
 
 returns : tie.Need-returns
-returns c = search needs
+returns c =
+    let s : tie.Start = c .before .before .before .before .before .before .before .before .before .before .before .before .before .before .before .before .before .before .before .before .before .before .before .before .before .before in
+    did-performs (s .args .sheet .now) (s .args .self) (s .pre) (s .args .bytes .now) _ _ _ (c .before .before .perform-in .ensures .0)
 
 pub perform-spec : {M : Type 1} → statement M
 perform-spec =

@@ -9,10 +9,10 @@ use lib.ListN.{length-set, length, take, drop}
 use Rattle.bonds.specs.Ends.{bondsIn}
 use Rattle.labels.specs.Labelled.{Labelled}
 use Rattle.sound.proofs.Lines.{placed-fits, placed-ends}
+use Rattle.sound.proofs.Holds.{placed}
 use Rattle.session.specs.Records.{Sound}
 use Rattle.session.specs.Lent.{recordAt}
 use Rattle.session.specs.declared.Record.{Record}
-use Rattle.session.proofs.Sounds.{placed}
 use Rattle.command_list.specs.Commands.{howMany}
 use Rattle.session.proofs.Stays.{step-sound}
 use Rattle.session.proofs.Turns.{Upto, upto-none, upto-more, upto-all}
@@ -39,13 +39,14 @@ held c = recordAt (c .loop .places) (c .loop .count) (c .loop .lo) (c .loop .hi)
 slice-aggregate-label-in : tie.Need-slice-aggregate-label-in Inv-loop μ-loop
 slice-aggregate-label-in c = search needs
 
+-- with what is known of the record's arrays in hand
 slice-aggregate-label-in-2 : tie.Need-slice-aggregate-label-in-2 Inv-loop μ-loop
-slice-aggregate-label-in-2 c = search needs
+slice-aggregate-label-in-2 c = let arrays = c .before .before .before .before .before .before .before .before .before .before .before .before .before .before .before .before .good .0 in search needs
 
 label-in-requires : tie.Need-label-in-requires Inv-loop μ-loop
 label-in-requires c κs =
     let s : tie.Start Inv-loop μ-loop = c .before .before .before .before .before .before .before .before .before .before .before .before .before .before .before .before in
-    let P = placed (s .args .sheet .now) (s .args .r) (s .pre .0) in
+    let P = placed (s .args .sheet .now) (s .args .r .marking) (s .args .r .firings) (s .args .r .given) (s .pre .0) in
     let (lo, hi) = placed-fits (s .args .sheet .now) (s .args .r .marking) P in
     ((search needs, lo, hi), placed-ends (s .args .sheet .now) (s .args .r .marking) P)
 

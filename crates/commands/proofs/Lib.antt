@@ -1,0 +1,7 @@
+-- What bytes and answers say; then a law for each return of a command in place.
+pub mod Decoding
+pub mod Saying
+pub mod Refuses
+pub mod Fires
+pub mod Undoes
+pub mod Performing

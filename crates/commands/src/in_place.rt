@@ -1,0 +1,228 @@
+// Commands in place, on the arrays of a record that are lent: what one command does on a sound record and an accepted sheet.
+// Nothing of either is checked again: the session's calls see to both.
+ghost use mathlib.Core.Path.{_≡_};
+ghost use Rattle.bonds.specs.Ends.{bondsIn};
+ghost use Rattle.labels.specs.Labelled.{Labelled};
+ghost use Rattle.net.specs.Journal.{act};
+ghost use Rattle.format.specs.Parts.{basesOf};
+ghost use Rattle.format.specs.NetOf.{netOf};
+ghost use Rattle.marking.specs.Held.{holding};
+ghost use Rattle.firings.specs.Lines.{lying};
+ghost use Rattle.sound.specs.Soundness.{journalIn, Passed};
+ghost use Rattle.commands.specs.Doing.{fireAct, undoAct, Did};
+use crate::Answer;
+use crate::Command;
+use crate::Decoded;
+use crate::Done;
+use crate::decode;
+use crate::refused_in;
+use firings::built_on;
+use firings::index_of;
+use firings::last_key;
+use net::Base;
+use net::Key;
+use net::MAX_BASES;
+use net::MAX_BONDS;
+use net::MAX_KEY;
+use net::MAX_LIVE;
+use net::Place;
+use net::Transition;
+use steps::enable_refusal;
+use undoing::undo_at;
+
+// Kind 1, in place on the arrays of a record: places, bonds and live firings; the highest key given goes by value, and beside
+// them the labels of the bonds are lent.
+// The record is sound and the sheet accepted, here and below: `perform` and a list of commands see to it.
+fn fire_in(
+    sheet: &[u8],
+    t: Transition,
+    places: &mut [Place; MAX_BASES],
+    count: usize,
+    lo: &mut [Base; MAX_BONDS],
+    hi: &mut [Base; MAX_BONDS],
+    live: usize,
+    transitions: &mut [u8; MAX_LIVE],
+    keys: &mut [u16; MAX_LIVE],
+    moved: &mut [u64; MAX_LIVE],
+    l: &mut [Base; MAX_BASES],
+    members: &mut [u64; MAX_BASES],
+    given: Key,
+) -> Done
+    requires { ⌜
+        Passed (now sheet) (holding (now places) count (now lo) (now hi)) (lying live (now transitions) (now keys) (now moved)) given
+        × Labelled (now l) (now members) (bondsIn (now lo) (now hi) count) ⌝ }
+    ensures { λ r. ⌜
+        Did (fireAct (netOf (now (sheet .entry)))
+        (journalIn (basesOf (now (sheet .entry))) (holding (now (places .entry)) count (now (lo .entry)) (now (hi .entry)))
+        (lying live (now (transitions .entry)) (now (keys .entry)) (now (moved .entry))) given) t)
+        r (holding (now (places .exit)) (r .count) (now (lo .exit)) (now (hi .exit))) (lying (r .live) (now (transitions .exit)) (now (keys .exit)) (now (moved .exit))) ⌝ }
+    ensures { λ r. ⌜ Labelled (now (l .exit)) (now (members .exit)) (bondsIn (now (lo .exit)) (now (hi .exit)) (r .count)) ⌝ }
+{
+    let refusal = enable_refusal(sheet, places, count, lo, hi, l, t);
+    if refusal != 0 {
+        return refused_in(refusal, count, live, given);
+    }
+    if MAX_LIVE <= live {
+        return refused_in(17, count, live, given);
+    }
+    if MAX_KEY <= given.0 {
+        return refused_in(18, count, live, given);
+    }
+    let fired = steps::fire_in(sheet, places, count, lo, hi, l, members, t);
+    transitions[live] = t.0 as u8;
+    keys[live] = given.0 + 1;
+    moved[live] = fired.moved;
+    Done {
+        answer: Answer::Fired,
+        key: Key(given.0 + 1),
+        count: fired.count,
+        live: live + 1,
+        given: Key(given.0 + 1),
+    }
+}
+
+// Kinds 2 and 3 in place, of the firing of that key.
+fn undo_in(
+    sheet: &[u8],
+    key: Key,
+    places: &mut [Place; MAX_BASES],
+    count: usize,
+    lo: &mut [Base; MAX_BONDS],
+    hi: &mut [Base; MAX_BONDS],
+    live: usize,
+    transitions: &mut [u8; MAX_LIVE],
+    keys: &mut [u16; MAX_LIVE],
+    moved: &mut [u64; MAX_LIVE],
+    l: &mut [Base; MAX_BASES],
+    members: &mut [u64; MAX_BASES],
+    given: Key,
+) -> Done
+    requires { ⌜
+        Passed (now sheet) (holding (now places) count (now lo) (now hi)) (lying live (now transitions) (now keys) (now moved)) given
+        × Labelled (now l) (now members) (bondsIn (now lo) (now hi) count) ⌝ }
+    ensures { λ r. ⌜
+        Did (undoAct (netOf (now (sheet .entry)))
+        (journalIn (basesOf (now (sheet .entry))) (holding (now (places .entry)) count (now (lo .entry)) (now (hi .entry)))
+        (lying live (now (transitions .entry)) (now (keys .entry)) (now (moved .entry))) given) key)
+        r (holding (now (places .exit)) (r .count) (now (lo .exit)) (now (hi .exit))) (lying (r .live) (now (transitions .exit)) (now (keys .exit)) (now (moved .exit))) ⌝ }
+    ensures { λ r. ⌜ Labelled (now (l .exit)) (now (members .exit)) (bondsIn (now (lo .exit)) (now (hi .exit)) (r .count)) ⌝ }
+{
+    let i = index_of(keys, live, key);
+    if live <= i {
+        return refused_in(19, count, live, given);
+    }
+    if built_on(moved, live, i) {
+        return refused_in(20, count, live, given);
+    }
+    let left = undo_at(
+        sheet,
+        places,
+        count,
+        lo,
+        hi,
+        live,
+        transitions,
+        keys,
+        moved,
+        l,
+        members,
+        i,
+    );
+    Done {
+        answer: Answer::Undone,
+        key: key,
+        count: left,
+        live: live - 1,
+        given: given,
+    }
+}
+
+// A command in place, on a sound record and an accepted sheet: nothing of either is checked again. The labels go with the
+// record from command to command: they are those of its bonds before and after.
+pub fn perform_in(
+    sheet: &[u8],
+    bytes: &[u8],
+    places: &mut [Place; MAX_BASES],
+    count: usize,
+    lo: &mut [Base; MAX_BONDS],
+    hi: &mut [Base; MAX_BONDS],
+    live: usize,
+    transitions: &mut [u8; MAX_LIVE],
+    keys: &mut [u16; MAX_LIVE],
+    moved: &mut [u64; MAX_LIVE],
+    l: &mut [Base; MAX_BASES],
+    members: &mut [u64; MAX_BASES],
+    given: Key,
+) -> Done
+    requires { ⌜
+        Passed (now sheet) (holding (now places) count (now lo) (now hi)) (lying live (now transitions) (now keys) (now moved)) given
+        × Labelled (now l) (now members) (bondsIn (now lo) (now hi) count) ⌝ }
+    ensures { λ r. ⌜
+        Did (act (netOf (now (sheet .entry)))
+        (journalIn (basesOf (now (sheet .entry))) (holding (now (places .entry)) count (now (lo .entry)) (now (hi .entry)))
+        (lying live (now (transitions .entry)) (now (keys .entry)) (now (moved .entry))) given) (now (bytes .entry)))
+        r (holding (now (places .exit)) (r .count) (now (lo .exit)) (now (hi .exit))) (lying (r .live) (now (transitions .exit)) (now (keys .exit)) (now (moved .exit))) ⌝ }
+    ensures { λ r. ⌜ Labelled (now (l .exit)) (now (members .exit)) (bondsIn (now (lo .exit)) (now (hi .exit)) (r .count)) ⌝ }
+{
+    if bytes.len() < 3 {
+        return refused_in(21, count, live, given);
+    }
+    let read = decode(bytes);
+    let Decoded::Given(c) = read else {
+        return refused_in(11, count, live, given);
+    };
+    match c {
+        Command::Fire(t) => {
+            fire_in(
+                sheet,
+                t,
+                places,
+                count,
+                lo,
+                hi,
+                live,
+                transitions,
+                keys,
+                moved,
+                l,
+                members,
+                given,
+            )
+        }
+        Command::Undo(k) => {
+            undo_in(
+                sheet,
+                k,
+                places,
+                count,
+                lo,
+                hi,
+                live,
+                transitions,
+                keys,
+                moved,
+                l,
+                members,
+                given,
+            )
+        }
+        Command::UndoLast => {
+            let k = last_key(keys, live);
+            undo_in(
+                sheet,
+                k,
+                places,
+                count,
+                lo,
+                hi,
+                live,
+                transitions,
+                keys,
+                moved,
+                l,
+                members,
+                given,
+            )
+        }
+    }
+}

@@ -1,0 +1,61 @@
+-- `least_sets::draws::lay_digits` is safe and ends. Lent slices keep their length.
+-- Assumes nothing.
+use borrow.Author.Needs.{needs}
+use mathlib.Core.Path.{_≡_}
+use Prim.Native.Nat.{_-_}
+use lib.ListN.{length}
+use Rattle.least_sets.proofs.draws.lay_digits.Statement.{statement}
+use Rattle.least_sets.proofs.draws.lay_digits.Tie as tie
+
+abbrev Inv-loop : tie.InvT-loop
+Inv-loop buf₀ places parts base word rest₀ b₀ buf rest b = length buf ≡ length buf₀
+
+abbrev μ-loop : tie.MeasureT-loop
+μ-loop buf₀ places parts base word rest₀ b₀ buf rest b = parts - b
+
+loop-holds : tie.Need-loop-holds Inv-loop μ-loop
+loop-holds c = search needs
+
+below-requires : tie.Need-below-requires Inv-loop μ-loop
+below-requires c κs = search needs
+
+wanted-of-requires : tie.Need-wanted-of-requires Inv-loop μ-loop
+wanted-of-requires c κs = search needs
+
+put-requires : tie.Need-put-requires Inv-loop μ-loop
+put-requires c κs = search needs
+
+over-requires : tie.Need-over-requires Inv-loop μ-loop
+over-requires c κs = search needs
+
+add-b : tie.Need-add-b Inv-loop μ-loop
+add-b c = search needs
+
+loop-less : tie.Need-loop-less Inv-loop μ-loop
+loop-less c = search needs
+
+loop-again : tie.Need-loop-again Inv-loop μ-loop
+loop-again c = search needs
+
+same-length : tie.Need-same-length Inv-loop μ-loop
+same-length c = search needs
+
+returns : tie.Need-returns Inv-loop μ-loop
+returns c = search needs
+
+pub lay-digits-spec : {M : Type 1} → statement M
+lay-digits-spec =
+    tie.close
+    (tie.spec
+    Inv-loop
+    μ-loop
+    loop-holds
+    below-requires
+    wanted-of-requires
+    put-requires
+    over-requires
+    add-b
+    loop-less
+    loop-again
+    same-length
+    returns)

@@ -1,0 +1,2 @@
+-- Proofs for the search among moved sets.
+pub mod Climbing

@@ -1,0 +1,218 @@
+// `way back`: the firings to take back so that named parts are at named places (document 02, T-04). A line names each part and its
+// place in the words of a sheet; what it does not name may be anywhere. The set is the customer's call.
+use crate::answer::put_if;
+use crate::part::behind;
+use crate::part::front;
+use crate::put::put;
+use crate::put::put_count;
+use crate::put::put_phrase;
+use crate::put::put_text;
+use crate::reason::put_reason;
+use crate::refused::put_refused;
+use crate::same::item_at;
+use crate::sheets::one_more;
+use crate::state::Desk;
+use crate::state::mistake;
+use crate::state::opened;
+use format::base_count;
+use format::byte_at;
+use format::place_count;
+use forms::has_form;
+use forms::nth_number;
+use net::MAX_LIVE;
+use way_back::WayAnswer;
+use way_back::WayBack;
+use why::Reason;
+
+// Room for a byte for each part that a line can name.
+const ROOM: usize = 256;
+
+// The byte of a part that may be anywhere.
+const ANY: u8 = 255;
+
+// ---- what is wanted
+
+// What stands at a position of a line: a part that was not named yet, its place, and where they end. Or the line is over there, or
+// neither.
+struct Wanted {
+    more: bool,
+    over: bool,
+    part: usize,
+    place: u8,
+    to: usize,
+}
+
+// The position behind the next item, and behind the next four.
+fn past_one(line: &[u8], at: usize) -> usize {
+    let p = item_at(line, at);
+    p.to
+}
+
+fn past_four(line: &[u8], at: usize) -> usize {
+    let two = past_one(line, past_one(line, at));
+    past_one(line, past_one(line, two))
+}
+
+fn wanted_at(line: &[u8], at: usize, named: &[u8]) -> Wanted {
+    let rest = behind(line, at);
+    let part = nth_number(rest, 0, 0, 4) as usize;
+    let reads = has_form(rest, 0, b"part 255 at 255", 4);
+    Wanted {
+        more: reads & (byte_at(named, part) == 0),
+        over: has_form(rest, 0, b"", 1),
+        part: part,
+        place: (nth_number(rest, 0, 1, 4) % 256) as u8,
+        to: past_four(line, at),
+    }
+}
+
+// A layout that was read: whether all of the line was, and how many parts the layout is of.
+struct Layout {
+    fine: bool,
+    n: usize,
+}
+
+fn layout_of(fine: bool, n: usize) -> Layout {
+    Layout { fine: fine, n: n }
+}
+
+// The layout reaches as far as the sheet's parts, and as far as the line's.
+fn at_least(n: usize, least: usize) -> usize {
+    if n < least { least } else { n }
+}
+
+// The parts that a line names from a position on, in a layout of n parts that may be anywhere. None of them is named yet.
+fn read_layout(line: &[u8], at: usize, layout: &mut [u8], named: &mut [u8], n: usize) -> Layout {
+    let mut pos = at;
+    let mut reach = n;
+    let mut left = line.len();
+    while 0 < left {
+        let w = wanted_at(line, pos, named);
+        if !w.more {
+            return layout_of(w.over, reach);
+        }
+        put(named, w.part, 1);
+        put(layout, w.part, w.place);
+        reach = at_least(reach, one_more(w.part));
+        pos = w.to;
+        left -= 1;
+    }
+    layout_of(true, reach)
+}
+
+// ---- the answer
+
+// `take back` and the serials, in the order of the call.
+fn put_serials(buf: &mut [u8], w: WayBack) -> usize {
+    let count = w.count;
+    let keys = w.keys;
+    let mut pos = put_text(buf, 0, b"take back");
+    let mut i = 0;
+    while i < MAX_LIVE {
+        let k = keys[i];
+        pos = put_if(buf, pos, i < count, k.0 as usize);
+        i += 1;
+    }
+    pos
+}
+
+fn put_found(buf: &mut [u8], w: WayBack) -> usize {
+    if w.count == 0 {
+        return put_text(buf, 0, b"take back nothing");
+    }
+    put_serials(buf, w)
+}
+
+// The first part that is wanted at a place which is not there; how many there are where none is.
+fn first_nowhere(layout: &[u8], places: u8) -> usize {
+    let mut p = 0;
+    while p < layout.len() {
+        let x = layout[p];
+        if (x != ANY) & (places <= x) {
+            return p;
+        }
+        p += 1;
+    }
+    p
+}
+
+// Why a layout is refused by 27.
+fn put_unfit(buf: &mut [u8], sheet: &[u8], layout: &[u8]) -> usize {
+    let parts = base_count(sheet) as usize;
+    let n = layout.len();
+    if parts < n {
+        return put_phrase(
+            buf,
+            b"part # is named and the parts are #",
+            n - 1,
+            parts,
+            0,
+            0,
+        );
+    }
+    let places = place_count(sheet);
+    let p = first_nowhere(layout, places);
+    put_phrase(
+        buf,
+        b"part # is wanted at # and the places are #",
+        p,
+        byte_at(layout, p) as usize,
+        places as usize,
+        0,
+    )
+}
+
+// Why the call was refused by a number.
+fn put_no_way(buf: &mut [u8], sheet: &[u8], layout: &[u8], number: u8) -> usize {
+    match number {
+        10 => put_reason(buf, Reason::Record),
+        27 => put_unfit(buf, sheet, layout),
+        28 => put_text(buf, 0, b"whatever is taken back some part is elsewhere"),
+        _ => put_refused(buf, sheet, number),
+    }
+}
+
+// The number that the call was refused by; 0 where it was not.
+fn way_refusal(a: WayAnswer) -> u8 {
+    match a {
+        WayAnswer::Found => 0,
+        WayAnswer::Refused(n) => n,
+    }
+}
+
+// The set, or `refused N` and why.
+fn put_way(buf: &mut [u8], sheet: &[u8], layout: &[u8], w: WayBack) -> usize {
+    let answer = w.answer;
+    let refusal = way_refusal(answer);
+    if refusal == 0 {
+        return put_found(buf, w);
+    }
+    let mut words = [0u8; ROOM];
+    let n = put_no_way(&mut words, sheet, layout, refusal);
+    let a = put_count(buf, 0, b"refused", refusal as usize);
+    let b = put(buf, a, b' ');
+    put_text(buf, b, front(&words, n))
+}
+
+// ---- the line
+
+// `way back` and the named parts. The record and the tally stay as they are.
+pub fn way_line(name: &[u8], line: &[u8], d: Desk, sheet: &[u8], answer: &mut [u8]) -> Desk {
+    let mut layout = [ANY; ROOM];
+    let mut named = [0u8; ROOM];
+    let s = front(sheet, d.length);
+    let parts = base_count(s) as usize;
+    let from = past_one(line, past_one(line, 0));
+    let l = read_layout(line, from, &mut layout, &mut named, parts);
+    if !l.fine {
+        return mistake(
+            name,
+            d,
+            b"`way back` and `part P at X` for each part that is wanted somewhere, none of them twice, numbers to 255",
+        );
+    }
+    let r = d.record;
+    let w = r.way_back(s, front(&layout, l.n));
+    let n = put_way(answer, s, front(&layout, l.n), w);
+    opened(d, n)
+}

@@ -1,0 +1,2 @@
+-- The live firing at a place taken back.
+pub mod Back
