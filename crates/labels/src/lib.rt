@@ -141,14 +141,14 @@ fn unite_all<'a>(l: &mut [Base; MAX_BASES], lo: &'a [Base], hi: &'a [Base], coun
     own_in(l);
     let mut roots = n;
     let mut left = count;
-    let mut i = 0;
+    let mut next = 0;
     while 0 < left {
         let b = Bond {
-            lo: lo[i],
-            hi: hi[i],
+            lo: lo[next],
+            hi: hi[next],
         };
         roots = roots - unite(l, b);
-        i += 1;
+        next += 1;
         left -= 1;
         if roots < 2 {
             return;

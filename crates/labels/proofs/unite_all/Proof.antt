@@ -40,7 +40,7 @@ unite-requires c κs =
     let s : tie.Start Inv-loop μ-loop = at .before .before .before .before .before in
     let F = at .loop .inv .2 .forest in
     let k = s .pre .1 .0 in
-    let (u, v) = s .pre .1 .1 (at .loop .i) (omega arith) in
+    let (u, v) = s .pre .1 .1 (at .loop .next) (omega arith) in
     (F .size, (omega arith, omega arith), F .down)
 
 sub-roots : tie.Need-sub-roots Inv-loop μ-loop
@@ -49,13 +49,13 @@ sub-roots c =
     let at : tie.At-loop Inv-loop μ-loop = u .before .before .before .before .before in
     let s : tie.Start Inv-loop μ-loop = at .before .before .before .before .before in
     let g : ℕ → Bond = ends (s .args .lo .now) (s .args .hi .now) in
-    let i = at .loop .i in
+    let i = at .loop .next in
     let e = u .unite .ensures .0 (s .args .n) (s .pre .1 .0) (s .pre .1 .1 i (omega arith)) in
     let q = at .loop .inv .1 in
     omega arith
 
-add-i : tie.Need-add-i Inv-loop μ-loop
-add-i c = search needs
+add-next : tie.Need-add-next Inv-loop μ-loop
+add-next c = search needs
 
 sub-left : tie.Need-sub-left Inv-loop μ-loop
 sub-left c = search needs
@@ -66,7 +66,7 @@ returns c =
     let at : tie.At-loop Inv-loop μ-loop = u .before .before .before .before .before in
     let s : tie.Start Inv-loop μ-loop = at .before .before .before .before .before in
     let g : ℕ → Bond = ends (s .args .lo .now) (s .args .hi .now) in
-    let i = at .loop .i in
+    let i = at .loop .next in
     let e = u .unite .ensures .0 (s .args .n) (s .pre .1 .0) (s .pre .1 .1 i (omega arith)) in
     let q = at .loop .inv .1 in
     spans-rest maxBases (s .args .n) (s .pre .1 .0) _ g (i + 1) (s .args .count) (spans-more maxBases _ i g (u .unite .ensures .1 (table i g) (at .loop .inv .2)))
@@ -81,7 +81,7 @@ loop-again c =
     let at : tie.At-loop Inv-loop μ-loop = u .before .before .before .before .before in
     let s : tie.Start Inv-loop μ-loop = at .before .before .before .before .before in
     let g : ℕ → Bond = ends (s .args .lo .now) (s .args .hi .now) in
-    let i = at .loop .i in
+    let i = at .loop .next in
     let e = u .unite .ensures .0 (s .args .n) (s .pre .1 .0) (s .pre .1 .1 i (omega arith)) in
     let q = at .loop .inv .1 in
     (omega arith, omega arith, spans-more maxBases _ i g (u .unite .ensures .1 (table i g) (at .loop .inv .2)))
@@ -90,7 +90,7 @@ returns-2 : tie.Need-returns-2 Inv-loop μ-loop
 returns-2 c =
     let at : tie.At-loop Inv-loop μ-loop = c .before in
     let s : tie.Start Inv-loop μ-loop = at .before .before .before .before .before in
-    let e : at .loop .i ≡ s .args .count = omega arith in
+    let e : at .loop .next ≡ s .args .count = omega arith in
     subst (λ (k : ℕ). Spans maxBases (at .loop .l) (bondsIn (s .args .lo .now) (s .args .hi .now) k)) e (at .loop .inv .2)
 
 pub unite-all-spec : {M : Type 1} → statement M
@@ -105,7 +105,7 @@ unite-all-spec =
     shared-slice-read-t16
     unite-requires
     sub-roots
-    add-i
+    add-next
     sub-left
     returns
     loop-less
