@@ -17,7 +17,7 @@ use Rattle.firings.specs.Search.{keysIn, indexOf, builtOnIn}
 use Rattle.firings.specs.declared.Firings.{Firings}
 use Rattle.firings.proofs.Search.{keys-of-lines}
 use Rattle.sound.proofs.Holds.{live-is}
-use Rattle.undoing.specs.Back.{TakenBack}
+use Rattle.undoing.specs.Back.{UndoneAt}
 use Rattle.undoing.proofs.Places.{place-most, place-dead, Found, place-found}
 use Rattle.undoing.proofs.Backs.{built-is, marking-after, firings-after}
 use Rattle.sound.specs.Soundness.{journalIn, Passed}
@@ -62,7 +62,7 @@ module _ (s : List ℕ) (m : Marking) (f : Firings) (g : Key) (k : Key) (P : Pas
           let q = by-arrays true e in
           refused-did s m f g P (undoAct (netOf s) j k) 20 (by-first false 20 (rw (found .live, q)) (rw (found .live, q)))
 
-      pub done : builtOnIn (f .live) (f .moved) i ≡ false → (m′ : Marking) (f′ : Firings) → TakenBack s m f i m′ f′ → (count live : ℕ)
+      pub done : builtOnIn (f .live) (f .moved) i ≡ false → (m′ : Marking) (f′ : Firings) → UndoneAt s m f i m′ f′ → (count live : ℕ)
           → Did (undoAct (netOf s) j k) (record { answer = Undone; key = k; count = count; live = live; given = g }) m′ f′
       done e m′ f′ T count live =
           let q = by-arrays false e in

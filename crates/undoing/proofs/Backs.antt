@@ -36,7 +36,7 @@ use Rattle.steps.proofs.Arcs.{count-of}
 use Rattle.sound.specs.Soundness.{journalIn, Passed}
 use Rattle.sound.proofs.Holds.{rule, few, held, live-is, firings-are}
 use Rattle.sound.proofs.Fits.{run-flags, held-back, held-passed}
-use Rattle.undoing.specs.Back.{lineAt, TakenBack}
+use Rattle.undoing.specs.Back.{lineAt, UndoneAt}
 use Rattle.undoing.proofs.Places.{Found, line-found}
 
 -- each line of a run is of a transition on the sheet
@@ -114,7 +114,7 @@ module _ (s : List ℕ) (m : Marking) (f : Firings) (g : Key) (P : Passed s m f 
       key-is : lineAt s f i .key ≡ k
       key-is = ap (λ (x : LiveLine). x .key) (F .line noLine) ∙ (λ x. record { 0 = F .key x })
 
-      module _ (m′ : Marking) (f′ : Firings) (T : TakenBack s m f i m′ f′) where
+      module _ (m′ : Marking) (f′ : Firings) (T : UndoneAt s m f i m′ f′) where
         abbrev after : Journal
         after = undoReply (netOf s) j k .journal
 
@@ -137,7 +137,7 @@ module _ (s : List ℕ) (m : Marking) (f : Firings) (g : Key) (P : Passed s m f 
 
     -- what undoing and closing up give is the taking back of the line at i
     pub taken-back : (m′ : Marking) (f′ : Firings) → m′ ≡ laid (undo (basesOf s) (arcsOf (netOf s) (transition (at .transition))) (setOf (basesOf s) (at .moved)) (markingOf (basesOf s) m))
-        → f′ ≡ closedUp i f → TakenBack s m f i m′ f′
+        → f′ ≡ closedUp i f → UndoneAt s m f i m′ f′
     taken-back m′ f′ em ef = record {
       marking = em ∙ ap (λ (x : LiveLine). laid (undo (basesOf s) (arcsOf (netOf s) (x .transition)) (x .moved) (j .marking))) line-is;
       firings = ef ∙ gone (lineAt s f i .key) found-at;

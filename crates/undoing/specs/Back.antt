@@ -20,6 +20,6 @@ lineAt s f i = getD (linesIn (basesOf s) f) i noLine
 
 -- What is held afterwards, m′ and f′: its transition is undone on the bases that it moved, its line goes and the others stay in
 -- order. Both are laid out with 0 in every unused entry.
-pub record TakenBack (s : List ℕ) (m : Marking) (f : Firings) (i : ℕ) (m′ : Marking) (f′ : Firings) : Type 0 where
+pub record UndoneAt (s : List ℕ) (m : Marking) (f : Firings) (i : ℕ) (m′ : Marking) (f′ : Firings) : Type 0 where
   pub marking : m′ ≡ laid (undo (basesOf s) (arcsOf (netOf s) (lineAt s f i .transition)) (lineAt s f i .moved) (markingOf (basesOf s) m))
   pub firings : f′ ≡ firingsOf (without (lineAt s f i .key) (linesIn (basesOf s) f))

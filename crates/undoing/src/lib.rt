@@ -7,7 +7,7 @@ ghost use Rattle.labels.specs.Labelled.{Labelled};
 ghost use Rattle.marking.specs.Held.{holding};
 ghost use Rattle.firings.specs.Lines.{lying};
 ghost use Rattle.sound.specs.Soundness.{Passed};
-ghost use Rattle.undoing.specs.Back.{TakenBack};
+ghost use Rattle.undoing.specs.Back.{UndoneAt};
 use firings::close_up;
 use firings::firing_at;
 use net::Base;
@@ -36,7 +36,7 @@ pub fn undo_at(
     requires { ⌜ ((k : Key) × Passed (now sheet) (holding (now places) count (now lo) (now hi)) (lying live (now transitions) (now keys) (now moved)) k) ⌝ }
     requires { ⌜ Labelled (now l) (now members) (bondsIn (now lo) (now hi) count) × (i < live) ⌝ }
     ensures { λ r. ⌜
-        TakenBack (now (sheet .entry)) (holding (now (places .entry)) count (now (lo .entry)) (now (hi .entry)))
+        UndoneAt (now (sheet .entry)) (holding (now (places .entry)) count (now (lo .entry)) (now (hi .entry)))
         (lying live (now (transitions .entry)) (now (keys .entry)) (now (moved .entry))) i
         (holding (now (places .exit)) r (now (lo .exit)) (now (hi .exit)))
         (lying (live - 1) (now (transitions .exit)) (now (keys .exit)) (now (moved .exit))) ⌝ }

@@ -26,7 +26,7 @@ use Rattle.firings.specs.declared.Firings.{Firings}
 use Rattle.sound.specs.Soundness.{journalIn, Passed}
 use Rattle.sound.proofs.Holds.{rule, few, held, live-is, firings-are}
 use Rattle.sound.proofs.Fits.{run-flags}
-use Rattle.undoing.specs.Back.{lineAt, TakenBack}
+use Rattle.undoing.specs.Back.{lineAt, UndoneAt}
 use Rattle.undoing.proofs.Backs.{found-at, back-passed, back-journal}
 use Rattle.way_back.specs.Ways.{wrongBase, movedIn, topAt, retreat}
 use Rattle.way_back.specs.Search.{Searched}
@@ -76,7 +76,7 @@ module _ (s w : List ℕ) (m : Marking) (f : Firings) where
           let e : movedIn p ls ≡ false = top-none (basesOf s) (few s m f k P) ls flags p (omega arith) in
           retreat-stops (netOf s) w n (j k) (inr (subst (λ (q : ℕ). movedIn q ls ≡ false) wrong e))
 
-      module _ (lt : p < basesOf s) (i : ℕ) (ei : i ≡ topAtIn (f .live) (f .moved) p) (h : i < f .live) (m′ : Marking) (f′ : Firings) (T : TakenBack s m f i m′ f′) where
+      module _ (lt : p < basesOf s) (i : ℕ) (ei : i ≡ topAtIn (f .live) (f .moved) p) (h : i < f .live) (m′ : Marking) (f′ : Firings) (T : UndoneAt s m f i m′ f′) where
         topped : Topped (basesOf s) (few s m f k P) ls flags p i
         topped =
             let a = live-is s m f k P in
@@ -109,7 +109,7 @@ module _ (s w : List ℕ) (m : Marking) (f : Firings) where
     pub stops-unmoved : (n : ℕ) → f .live ≤ topAtIn (f .live) (f .moved) p → Searched s w m f n m f 0
     stops-unmoved n h = record { stays = λ k P. P; same = λ k P. sym (not-moved k P h n) }
 
-    pub takes-back : (n : ℕ) → 0 < n → p < basesOf s → (i : ℕ) → i ≡ topAtIn (f .live) (f .moved) p → i < f .live → (m′ : Marking) (f′ : Firings) → TakenBack s m f i m′ f′
+    pub takes-back : (n : ℕ) → 0 < n → p < basesOf s → (i : ℕ) → i ≡ topAtIn (f .live) (f .moved) p → i < f .live → (m′ : Marking) (f′ : Firings) → UndoneAt s m f i m′ f′
         → Searched s w m f n m′ f′ (n - 1)
     takes-back n pos lt i ei h m′ f′ T =
         let e : suc (n - 1) ≡ n = omega arith in
