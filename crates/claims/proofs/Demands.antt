@@ -12,6 +12,7 @@ use Rattle.claims.proofs.Published.{demand2-published}
 use Rattle.claims.proofs.Pages.{pages}
 use Rattle.claims.proofs.Blocks.{blocks}
 use Rattle.claims.proofs.WayBack.{ways}
+use Rattle.claims.proofs.Lamps.{lamps-claimed}
 use Rattle.claims.proofs.Serials.{serials}
 
 pub demands : Demands
@@ -29,4 +30,5 @@ demands = record {
   serials = λ s accepted. serials s accepted (promised s accepted .rule);
   blocks = blocks;
   ways = ways;
+  lamps = lamps-claimed;
 }

@@ -1,7 +1,7 @@
 -- Document 01's sheets A and B: the premises of the demands are met. A refused sheet; and three commands on sheet B, one of each
 -- kind, that do what chapter 3 does. Assumes nothing.
-use mathlib.Core.Path.{_≡_, refl, _∙_, ap, subst}
-use mathlib.Core.Bool.{true}
+use mathlib.Core.Path.{_≡_, refl, sym, _∙_, ap, subst}
+use mathlib.Core.Bool.{true, false}
 use mathlib.Core.List.{List, [], _∷_, _++_, map}
 use Prim.Native.Nat.{ℕ}
 use lib.ListN.{set}
@@ -9,6 +9,7 @@ use Rattle.net.specs.Net.{Net}
 use Rattle.net.specs.Checks.{clear}
 use Rattle.net.specs.Journal.{Journal, transition, key, begin, act, answers, play}
 use Rattle.net.specs.Cases.{netB, fireOf, undoLast, undoOf}
+use Rattle.net.proofs.Tests.{fails}
 use Rattle.net.proofs.Checks.{clear-append}
 use Rattle.net.specs.declared.Transition.{Transition}
 use Rattle.published.specs.Sets.{Max}
@@ -30,6 +31,7 @@ use Rattle.session.specs.Commands.{freshOf, zeroRecord, startOf, commandOf}
 use Rattle.commands.specs.Answers.{answerOf, wordOf, valueOf}
 use Rattle.session.specs.Runs.{Answered, answered}
 use Rattle.session.specs.Block.{blockChecks, blockOf}
+use Rattle.session.specs.Lamps.{canUndo}
 use Rattle.session.specs.Ways.{wayBackChecks, wayBackOf}
 use Rattle.session.specs.declared.Record.{Record}
 use Rattle.session.specs.declared.StartAnswer.the-variants.{NotStarted}
@@ -40,6 +42,7 @@ use Rattle.claims.specs.WayBack.{keysGiven, Smallest}
 use Rattle.claims.specs.Demands.{Demand3}
 use Rattle.claims.proofs.Records.{answer-is}
 use Rattle.claims.proofs.Published.{holds, session-passes}
+use Rattle.claims.proofs.Lamps.{no-refusal}
 use Rattle.claims.proofs.Demands.{demands}
 
 -- ---- A and B are accepted; a damaged A is refused, and starts no session
@@ -122,7 +125,7 @@ abbrev nines : List ℕ
 nines = 9 ∷ 9 ∷ 9 ∷ 9 ∷ 9 ∷ []
 
 block-passes : clear (blockChecks sheetB (freshOf sheetB) block 5 5) ≡ true
-block-passes = clear-append (sheetChecks sheetB) _ ∙ rw (accepted-B, sound-B .sound)
+block-passes = clear-append (sheetChecks sheetB) _ ∙ rw (accepted-B, demands .soundness sheetB accepted-B .fresh)
 
 block-answers : (t : Tally) → sessionAfter sheetB (commandsIn block) t .answers ≡ map answered (answers netB (commandsIn block) (begin netB))
 block-answers t = demand3-B (commandsIn block) t .answers ∙ ap (λ (n : Net). map answered (answers n (commandsIn block) (begin n))) sheetB-net
@@ -162,3 +165,11 @@ pub way-B : (t : Tally) → Smallest sheetB (recordB firings t) t wanted (key 2 
 way-B t =
     subst (λ (y : WayBack). Smallest sheetB (recordB firings t) t wanted (keysGiven y)) (way-given t)
     (demands .ways sheetB (recordB firings t) wanted t .found (ap (λ (y : WayBack). y .answer) (way-given t)))
+
+-- ---- T-06: after M4 on sheet B the lamps of 2 and 3 are lit; that of 1 is not, since 2 was built on it
+
+pub lit-B : (t : Tally) → (canUndo sheetB (recordB firings t) (key 2) ≡ true) × (canUndo sheetB (recordB firings t) (key 3) ≡ true)
+lit-B t = let L = demands .lamps sheetB (recordB firings t) t in (L .says (key 2) .1 (answer-B firings t (undoOf 2)), L .says (key 3) .1 (answer-B firings t (undoOf 3)))
+
+pub dark-B : (t : Tally) → canUndo sheetB (recordB firings t) (key 1) ≡ false
+dark-B t = fails (canUndo sheetB (recordB firings t) (key 1)) (λ e. no-refusal 20 (sym (answer-B firings t (undoOf 1)) ∙ demands .lamps sheetB (recordB firings t) t .says (key 1) .0 e))

@@ -10,5 +10,6 @@ pub mod Pages
 pub mod Blocks
 pub mod Serials
 pub mod WayBack
+pub mod Lamps
 pub mod Demands
 pub mod Instances

@@ -1,17 +1,17 @@
 -- The pages of every list of firing records; the premise is met by the live firings of document 01's case M4 on sheet B.
 -- Assumes nothing.
-use mathlib.Core.Path.{_≡_, refl, ap}
+use mathlib.Core.Path.{_≡_, refl}
 use mathlib.Core.Bool.{Bool, true, _&&_}
 use mathlib.Core.List.{List, [], _∷_, map}
-use Prim.Native.Nat.{ℕ, zero, suc, _≤_}
+use Prim.Native.Nat.{ℕ, _≤_}
 use native.Mathlib.Omega.{arith}
 use lib.Dec.{ltb, leb}
-use lib.ListN.{length}
 use borrow.Author.Tests.{le-leb}
 use Rattle.net.specs.Limits.{maxBases}
 use Rattle.net.specs.Tests.{all}
 use Rattle.net.proofs.Tests.{and-l, and-r, and-i}
 use Rattle.bonds.proofs.Fill.{count-le}
+use Rattle.words.proofs.Bits.{set-size}
 use Rattle.words.specs.Sets.{setOf, sizeOf}
 use Rattle.firings.specs.declared.Firing.{Firing}
 use Rattle.page_lines.specs.Claims.{holdable}
@@ -21,16 +21,11 @@ use Rattle.page.specs.Rows.{rowOf}
 use Rattle.net.specs.Journal.{key}
 use Rattle.claims.specs.Pages.{inBytes, Pages}
 
-set-length : (n w : ℕ) → length (setOf n w) ≡ n
-unfolding setOf
-set-length zero w = refl
-set-length (suc n) w = ap suc (set-length n _)
-
 -- no more parts move than a sheet has
 moved-most : (w : ℕ) → sizeOf (setOf maxBases w) ≤ maxBases
 moved-most w =
     let a = count-le (λ (b : Bool). b) (setOf maxBases w) in
-    let b = set-length maxBases w in
+    let b = set-size maxBases w in
     omega arith
 
 row-holds : (f : Firing) → inBytes f ≡ true → holdable (rowOf f) ≡ true

@@ -42,10 +42,10 @@ use Rattle.session.specs.Runs.{Answered, answered}
 use Rattle.session.specs.declared.Record.{Record}
 use Rattle.commands.specs.declared.Answer.{Answer}
 use Rattle.commands.specs.declared.Answer.the-variants.{Fired, Undone, Refused}
-use Rattle.session.proofs.Steps.{held-back, held-sound, follows-fresh}
+use Rattle.session.proofs.Steps.{held-back, follows-fresh}
 use Rattle.claims.specs.Sessions.{sessionAfter}
 use Rattle.claims.specs.Published.{marksIn, historyIn, givenIn, firedAs, answeredAndZero, orderIn, recordAfter, CommandFires, CommandTakesBack, RecordAsPublished, RecordKeysAsPublished, FollowsPublished, Demand2Published}
-use Rattle.claims.proofs.Records.{passes-held, answer-is, key-is, journal-is}
+use Rattle.claims.proofs.Records.{journal-passes, passes-held, answer-is, key-is, journal-is}
 
 -- ---- answers
 
@@ -273,7 +273,7 @@ module _ (s : List ℕ) (accepted : clear (sheetChecks s) ≡ true) (ok : netRul
   holds cs t = ap (heldIn s) (follows-fresh s accepted cs t .session) ∙ held-back s accepted (play (netOf s) cs (begin (netOf s))) (played (netOf s) ok cs)
 
   pub session-passes : (cs : List (List ℕ)) (t : Tally) → soundFor s (sessionAfter s cs t .session) ≡ true
-  session-passes cs t = ap (soundFor s) (follows-fresh s accepted cs t .session) ∙ held-sound s accepted (play (netOf s) cs (begin (netOf s))) (played (netOf s) ok cs) .sound
+  session-passes cs t = ap (soundFor s) (follows-fresh s accepted cs t .session) ∙ journal-passes s accepted ok (play (netOf s) cs (begin (netOf s))) (played (netOf s) ok cs)
 
   fresh-holds : heldIn s (freshOf s) ≡ begin (netOf s)
   unfolding freshOf

@@ -7,10 +7,12 @@
 use mathlib.Core.Path.{_≡_}
 use mathlib.Core.Bool.{true, false}
 use mathlib.Core.List.{List, _∷_, _++_, map}
-use Prim.Native.Nat.{ℕ, _+_, _≤_}
+use Prim.Native.Nat.{ℕ, _+_, _<_, _≤_}
 use lib.Dec.{eqb}
-use lib.ListN.{length}
+use lib.ListN.{length, getD}
+use Rattle.causal.specs.Lists.{Mem}
 use Rattle.causal.specs.Reorderings.{Reordering}
+use Rattle.net.specs.Limits.{maxBases}
 use Rattle.net.specs.Net.{Marking}
 use Rattle.net.specs.Checks.{Check, check, clear, first}
 use Rattle.net.specs.Firing.{inSet}
@@ -39,6 +41,7 @@ use Rattle.claims.specs.Pages.{Pages}
 use Rattle.claims.specs.Blocks.{Blocks}
 use Rattle.claims.specs.Serials.{Serials}
 use Rattle.claims.specs.WayBack.{Ways}
+use Rattle.claims.specs.Lamps.{Lamps}
 
 -- ---- What the definitions of firing rest on
 
@@ -119,13 +122,22 @@ pub record Demand3 (s : List ℕ) (cs : List (List ℕ)) (t : Tally) : Type 0 wh
   -- and in every reordering that keeps the order of any two that moved a common base
   pub reordered : (ls : List LiveLine) → Reordering inSet (journalAfter s cs .lines) ls → (t′ : Tally) → ForwardRun s ls (journalAfter s cs .marking) t′
 
+-- k is the key of the last of the lines that moved the base p: of one that moved it, where none of a higher key did; 0 where
+-- none moved it.
+pub record LastToMove (p : ℕ) (ls : List LiveLine) (k : ℕ) : Type 0 where
+  pub last : (l : LiveLine) → Mem l ls → inSet (l .moved) p ≡ true → ((h : LiveLine) → Mem h ls → l .key .0 < h .key .0 → inSet (h .moved) p ≡ false) → k ≡ l .key .0
+  pub none : ((l : LiveLine) → Mem l ls → inSet (l .moved) p ≡ false) → k ≡ 0
+
 -- Sound records (01, commands, record, tally), those that refusal 10 lets pass, handed in or not: a fresh one is sound; a command
--- on a sound one hands back a sound one; and its live firings, given as commands from a fresh record, run forward to what it
--- holds.
+-- on a sound one hands back a sound one; its live firings, given as commands from a fresh record, run forward to what it
+-- holds; and its table is that of its live firings: for each base the key of the last that moved it (02, T-06).
 pub record Soundness (s : List ℕ) : Type 0 where
   pub fresh : soundFor s (freshOf s) ≡ true
   pub stays : (r : Record) (t : Tally) (c : List ℕ) → soundFor s r ≡ true → soundFor s (commandOf s r t c .outcome .session) ≡ true
   pub forward : (r : Record) → soundFor s r ≡ true → (t : Tally) → ForwardRun s (heldIn s r .lines) (heldIn s r .marking) t
+  pub movers : (r : Record) → soundFor s r ≡ true → (p : ℕ) → p < maxBases → LastToMove p (heldIn s r .lines) (getD (r .movers) p 0)
+  -- and has no entry but those
+  pub size : (r : Record) → soundFor s r ≡ true → length (r .movers) ≡ maxBases
 
 -- ---- Document 01's totals
 
@@ -153,3 +165,4 @@ pub record Demands : Type 0 where
   pub serials : (s : List ℕ) → clear (sheetChecks s) ≡ true → (cs : List (List ℕ)) (t : Tally) → Serials s cs t
   pub blocks : (s : List ℕ) (r : Record) (t : Tally) (b words values : List ℕ) → Blocks s r t b words values
   pub ways : (s : List ℕ) (r : Record) (w : List ℕ) (t : Tally) → Ways s r w t
+  pub lamps : (s : List ℕ) (r : Record) (t : Tally) → Lamps s r t

@@ -5,4 +5,5 @@ pub mod Pages
 pub mod Blocks
 pub mod Serials
 pub mod WayBack
+pub mod Lamps
 pub mod Demands

@@ -2,6 +2,7 @@
 pub mod Decoding
 pub mod Saying
 pub mod Refuses
+pub mod Movers
 pub mod Fires
 pub mod Undoes
 pub mod Performing

@@ -1,7 +1,9 @@
--- What a command in place does to what is lent: a marking, live firings and the highest key given.
+-- What a command in place does to what is lent: a marking, live firings, last movers and the highest key given.
 -- Definitions only. The journal's own reply says all of it (net/specs/Journal).
 use mathlib.Core.Path.{_≡_}
+use mathlib.Core.List.{List}
 use Prim.Native.Nat.{ℕ}
+use Rattle.net.specs.Limits.{maxBases}
 use Rattle.net.specs.Tests.{pick}
 use Rattle.net.specs.Net.{Net}
 use Rattle.net.specs.Checks.{clear, first}
@@ -12,6 +14,7 @@ use Rattle.marking.specs.Form.{laid}
 use Rattle.marking.specs.declared.Marking.{Marking}
 use Rattle.firings.specs.Lines.{firingsOf}
 use Rattle.firings.specs.declared.Firings.{Firings}
+use Rattle.movers.specs.Lamp.{lastMovers}
 use Rattle.commands.specs.Answers.{answerOf, keyOf}
 use Rattle.commands.specs.declared.Done.{Done}
 use Rattle.commands.specs.declared.Answer.the-variants.{Refused}
@@ -25,11 +28,12 @@ abbrev pub undoAct : Net → Journal → Key → Reply
 undoAct net j k = pick (clear (undoChecks j k)) (undoReply net j k) (refuse j (first (undoChecks j k)))
 
 -- The reply y was given: the answer and its key, and what the arrays hold then, laid out with 0 in every unused entry.
-pub record Did (y : Reply) (d : Done) (m : Marking) (f : Firings) : Type 0 where
+pub record Did (y : Reply) (d : Done) (m : Marking) (f : Firings) (t : List ℕ) : Type 0 where
   pub answer : d .answer ≡ answerOf (y .answer)
   pub key : d .key ≡ keyOf (y .answer)
   pub marking : m ≡ laid (y .journal .marking)
   pub firings : f ≡ firingsOf (y .journal .lines)
+  pub movers : t ≡ lastMovers maxBases (y .journal .lines)
   pub given : d .given ≡ y .journal .given
 
 -- a refusal: nothing changes, and the key is 0

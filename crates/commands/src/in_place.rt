@@ -1,6 +1,5 @@
 // Commands in place, on the arrays of a record that are lent: what one command does on a sound record and an accepted sheet.
 // Nothing of either is checked again: the session's calls see to both.
-ghost use mathlib.Core.Path.{_≡_};
 ghost use Rattle.bonds.specs.Ends.{bondsIn};
 ghost use Rattle.labels.specs.Labelled.{Labelled};
 ghost use Rattle.net.specs.Journal.{act};
@@ -8,7 +7,7 @@ ghost use Rattle.format.specs.Parts.{basesOf};
 ghost use Rattle.format.specs.NetOf.{netOf};
 ghost use Rattle.marking.specs.Held.{holding};
 ghost use Rattle.firings.specs.Lines.{lying};
-ghost use Rattle.sound.specs.Soundness.{journalIn, Passed};
+ghost use Rattle.sound.specs.Soundness.{journalIn, Kept};
 ghost use Rattle.commands.specs.Doing.{fireAct, undoAct, Did};
 use crate::Answer;
 use crate::Command;
@@ -16,9 +15,11 @@ use crate::Decoded;
 use crate::Done;
 use crate::decode;
 use crate::refused_in;
-use firings::built_on;
 use firings::index_of;
 use firings::last_key;
+use movers::table::mark;
+use movers::table::mark_back;
+use movers::table::on_top;
 use net::Base;
 use net::Key;
 use net::MAX_BASES;
@@ -30,8 +31,8 @@ use net::Transition;
 use steps::enable_refusal;
 use undoing::undo_at;
 
-// Kind 1, in place on the arrays of a record: places, bonds and live firings; the highest key given goes by value, and beside
-// them the labels of the bonds are lent.
+// Kind 1, in place on the arrays of a record: places, bonds, live firings and last movers; the highest key given goes by value, and
+// beside them the labels of the bonds are lent.
 // The record is sound and the sheet accepted, here and below: `perform` and a list of commands see to it.
 fn fire_in(
     sheet: &[u8],
@@ -44,18 +45,19 @@ fn fire_in(
     transitions: &mut [u8; MAX_LIVE],
     keys: &mut [u16; MAX_LIVE],
     moved: &mut [u64; MAX_LIVE],
+    movers: &mut [u16; MAX_BASES],
     l: &mut [Base; MAX_BASES],
     members: &mut [u64; MAX_BASES],
     given: Key,
 ) -> Done
     requires { ⌜
-        Passed (now sheet) (holding (now places) count (now lo) (now hi)) (lying live (now transitions) (now keys) (now moved)) given
+        Kept (now sheet) (holding (now places) count (now lo) (now hi)) (lying live (now transitions) (now keys) (now moved)) given (now movers)
         × Labelled (now l) (now members) (bondsIn (now lo) (now hi) count) ⌝ }
     ensures { λ r. ⌜
         Did (fireAct (netOf (now (sheet .entry)))
         (journalIn (basesOf (now (sheet .entry))) (holding (now (places .entry)) count (now (lo .entry)) (now (hi .entry)))
         (lying live (now (transitions .entry)) (now (keys .entry)) (now (moved .entry))) given) t)
-        r (holding (now (places .exit)) (r .count) (now (lo .exit)) (now (hi .exit))) (lying (r .live) (now (transitions .exit)) (now (keys .exit)) (now (moved .exit))) ⌝ }
+        r (holding (now (places .exit)) (r .count) (now (lo .exit)) (now (hi .exit))) (lying (r .live) (now (transitions .exit)) (now (keys .exit)) (now (moved .exit))) (now (movers .exit)) ⌝ }
     ensures { λ r. ⌜ Labelled (now (l .exit)) (now (members .exit)) (bondsIn (now (lo .exit)) (now (hi .exit)) (r .count)) ⌝ }
 {
     let refusal = enable_refusal(sheet, places, count, lo, hi, l, t);
@@ -72,6 +74,7 @@ fn fire_in(
     transitions[live] = t.0 as u8;
     keys[live] = given.0 + 1;
     moved[live] = fired.moved;
+    mark(movers, fired.moved, Key(given.0 + 1));
     Done {
         answer: Answer::Fired,
         key: Key(given.0 + 1),
@@ -81,7 +84,8 @@ fn fire_in(
     }
 }
 
-// Kinds 2 and 3 in place, of the firing of that key.
+// Kinds 2 and 3 in place, of the firing of that key. Whether another was built on it, refusal 20, is what its lamp says: only the
+// last movers of its own bases are looked at (document 02, T-06).
 fn undo_in(
     sheet: &[u8],
     key: Key,
@@ -93,27 +97,30 @@ fn undo_in(
     transitions: &mut [u8; MAX_LIVE],
     keys: &mut [u16; MAX_LIVE],
     moved: &mut [u64; MAX_LIVE],
+    movers: &mut [u16; MAX_BASES],
     l: &mut [Base; MAX_BASES],
     members: &mut [u64; MAX_BASES],
     given: Key,
 ) -> Done
     requires { ⌜
-        Passed (now sheet) (holding (now places) count (now lo) (now hi)) (lying live (now transitions) (now keys) (now moved)) given
+        Kept (now sheet) (holding (now places) count (now lo) (now hi)) (lying live (now transitions) (now keys) (now moved)) given (now movers)
         × Labelled (now l) (now members) (bondsIn (now lo) (now hi) count) ⌝ }
     ensures { λ r. ⌜
         Did (undoAct (netOf (now (sheet .entry)))
         (journalIn (basesOf (now (sheet .entry))) (holding (now (places .entry)) count (now (lo .entry)) (now (hi .entry)))
         (lying live (now (transitions .entry)) (now (keys .entry)) (now (moved .entry))) given) key)
-        r (holding (now (places .exit)) (r .count) (now (lo .exit)) (now (hi .exit))) (lying (r .live) (now (transitions .exit)) (now (keys .exit)) (now (moved .exit))) ⌝ }
+        r (holding (now (places .exit)) (r .count) (now (lo .exit)) (now (hi .exit))) (lying (r .live) (now (transitions .exit)) (now (keys .exit)) (now (moved .exit))) (now (movers .exit)) ⌝ }
     ensures { λ r. ⌜ Labelled (now (l .exit)) (now (members .exit)) (bondsIn (now (lo .exit)) (now (hi .exit)) (r .count)) ⌝ }
 {
     let i = index_of(keys, live, key);
     if live <= i {
         return refused_in(19, count, live, given);
     }
-    if built_on(moved, live, i) {
+    let set = moved[i];
+    if !on_top(movers, set, key) {
         return refused_in(20, count, live, given);
     }
+    mark_back(movers, keys, moved, i, set);
     let left = undo_at(
         sheet,
         places,
@@ -150,18 +157,19 @@ pub fn perform_in(
     transitions: &mut [u8; MAX_LIVE],
     keys: &mut [u16; MAX_LIVE],
     moved: &mut [u64; MAX_LIVE],
+    movers: &mut [u16; MAX_BASES],
     l: &mut [Base; MAX_BASES],
     members: &mut [u64; MAX_BASES],
     given: Key,
 ) -> Done
     requires { ⌜
-        Passed (now sheet) (holding (now places) count (now lo) (now hi)) (lying live (now transitions) (now keys) (now moved)) given
+        Kept (now sheet) (holding (now places) count (now lo) (now hi)) (lying live (now transitions) (now keys) (now moved)) given (now movers)
         × Labelled (now l) (now members) (bondsIn (now lo) (now hi) count) ⌝ }
     ensures { λ r. ⌜
         Did (act (netOf (now (sheet .entry)))
         (journalIn (basesOf (now (sheet .entry))) (holding (now (places .entry)) count (now (lo .entry)) (now (hi .entry)))
         (lying live (now (transitions .entry)) (now (keys .entry)) (now (moved .entry))) given) (now (bytes .entry)))
-        r (holding (now (places .exit)) (r .count) (now (lo .exit)) (now (hi .exit))) (lying (r .live) (now (transitions .exit)) (now (keys .exit)) (now (moved .exit))) ⌝ }
+        r (holding (now (places .exit)) (r .count) (now (lo .exit)) (now (hi .exit))) (lying (r .live) (now (transitions .exit)) (now (keys .exit)) (now (moved .exit))) (now (movers .exit)) ⌝ }
     ensures { λ r. ⌜ Labelled (now (l .exit)) (now (members .exit)) (bondsIn (now (lo .exit)) (now (hi .exit)) (r .count)) ⌝ }
 {
     if bytes.len() < 3 {
@@ -184,6 +192,7 @@ pub fn perform_in(
                 transitions,
                 keys,
                 moved,
+                movers,
                 l,
                 members,
                 given,
@@ -201,6 +210,7 @@ pub fn perform_in(
                 transitions,
                 keys,
                 moved,
+                movers,
                 l,
                 members,
                 given,
@@ -219,6 +229,7 @@ pub fn perform_in(
                 transitions,
                 keys,
                 moved,
+                movers,
                 l,
                 members,
                 given,

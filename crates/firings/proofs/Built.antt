@@ -19,7 +19,6 @@ use Rattle.net.proofs.Keys.{Up}
 use Rattle.words.specs.Sets.{setOf, packed}
 use Rattle.words.proofs.Bits.{set-packed}
 use Rattle.firings.specs.Lines.{setsOf, firingsOf}
-use Rattle.firings.specs.Search.{builtOnIn}
 use Rattle.firings.proofs.Laid.{getD-front, mem-at}
 
 -- ---- a set as a word, with bits for more bases
@@ -54,6 +53,10 @@ common-words n a b h p q =
     (λ i. common (set-wide maxBases a (rw p h) i) (set-wide maxBases b (rw q h) i)) ∙ common-pad a b (maxBases - length a) (maxBases - length b) (p ∙ sym q)
 
 -- ---- those after a line
+
+-- a live firing after the one at i moved a base that it moved
+abbrev pub builtOnIn : ℕ → List ℕ → ℕ → Bool
+builtOnIn k moved i = any (λ j. common (setOf maxBases (getD moved i 0)) (setOf maxBases (getD moved (i + 1 + j) 0))) (table (k - (i + 1)) (λ j. j))
 
 -- a test on what an index reads is the test on the elements
 any-read : {X : Type 0} (t : X → Bool) (d : X) (xs : List X) (p : ℕ → Bool) (f : ℕ → ℕ) → ((j : ℕ) → j < length xs → p (f j) ≡ t (getD xs j d)) → any p (table (length xs) f) ≡ any t xs

@@ -1,15 +1,12 @@
--- The live firings searched: the last key, the firing of a key, and whether a later one was built on it.
+-- The live firings searched: the last key, and the firing of a key.
 -- Definitions only. The first k entries of an array are live.
-use mathlib.Core.Bool.{Bool}
 use mathlib.Core.List.{List}
-use Prim.Native.Nat.{ℕ, _+_, _-_}
+use Prim.Native.Nat.{ℕ, _-_}
 use lib.Dec.{eqb}
 use lib.ListN.{getD}
-use Rattle.net.specs.Limits.{maxBases}
-use Rattle.net.specs.Tests.{pick, any, table, firstAt}
-use Rattle.net.specs.Journal.{key, common}
+use Rattle.net.specs.Tests.{pick, table, firstAt}
+use Rattle.net.specs.Journal.{key}
 use Rattle.net.specs.declared.Key.{Key}
-use Rattle.words.specs.Sets.{setOf}
 
 -- the live keys
 abbrev pub keysIn : ℕ → List ℕ → List ℕ
@@ -22,7 +19,3 @@ lastKey k keys = pick (eqb k 0) (key 0) (key (getD keys (k - 1) 0))
 -- where the first of that key stands; the length of the list where there is none
 abbrev pub indexOf : Key → List ℕ → ℕ
 indexOf k xs = firstAt (λ x. eqb x (k .0)) xs
-
--- a live firing after the one at i moved a base that it moved
-abbrev pub builtOnIn : ℕ → List ℕ → ℕ → Bool
-builtOnIn k moved i = any (λ j. common (setOf maxBases (getD moved i 0)) (setOf maxBases (getD moved (i + 1 + j) 0))) (table (k - (i + 1)) (λ j. j))

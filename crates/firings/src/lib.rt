@@ -1,18 +1,16 @@
 // The live firings of a session record, in three lent arrays of numbers: one taken out, their form, their keys.
 // Entries after the live ones hold 0.
 ghost use mathlib.Core.Path.{_≡_};
-ghost use mathlib.Core.Bool.{Bool, true};
-ghost use mathlib.Core.List.{List};
+ghost use mathlib.Core.Bool.{true};
 ghost use Prim.Native.Nat.{_+_, _-_, _<_, _≤_};
 ghost use lib.Dec.{ltb};
 ghost use lib.ListN.{length, getD};
 ghost use Rattle.net.specs.Limits.{maxBases, maxLive};
-ghost use Rattle.net.specs.Journal.{transition, common};
-ghost use Rattle.net.specs.Tests.{pick, any, count, table};
-ghost use Rattle.words.specs.Sets.{setOf};
+ghost use Rattle.net.specs.Journal.{transition};
+ghost use Rattle.net.specs.Tests.{pick, count, table};
 ghost use Rattle.marking.specs.Form.{zeroFrom};
 ghost use Rattle.firings.specs.Lines.{lying, firingAt, linesIn, firingsOf, closed, closedUp};
-ghost use Rattle.firings.specs.Search.{keysIn, lastKey, indexOf, builtOnIn};
+ghost use Rattle.firings.specs.Search.{keysIn, lastKey, indexOf};
 ghost use Rattle.firings.specs.Form.{allWithin, firingsInForm, climbs};
 use marking_form::zero_bytes;
 use net::Key;
@@ -20,8 +18,6 @@ use net::MAX_KEY;
 use net::MAX_LIVE;
 use net::Transition;
 use words::low_bits;
-use words::shares;
-use words::union;
 
 // A live firing. The transition's number is kept in one byte; `transition_of` is what reads it. The moved bases are a word.
 pub struct Firing {
@@ -249,29 +245,4 @@ pub fn index_of(keys: &[u16; MAX_LIVE], live: usize, key: Key) -> usize
         return live;
     }
     n
-}
-
-// The bases that the live firings from `from` on moved.
-fn moved_from(moved: &[u64; MAX_LIVE], live: usize, from: usize) -> u64
-    requires { ⌜ (from ≤ live) × (live ≤ maxLive) ⌝ }
-    ensures { λ r. ⌜
-        ((m : List Bool) → common m (setOf maxBases r)
-        ≡ any (λ k. common m (setOf maxBases (getD (now (moved .entry)) (from + k) 0))) (table (live - from) (λ k. k))) ⌝ }
-{
-    let mut all: u64 = 0;
-    let mut j = from;
-    while j < live {
-        all = union(all, moved[j]);
-        j += 1;
-    }
-    all
-}
-
-// Whether a live firing after the one at i moved a base that it moved (refusal 20: those after it have the higher keys).
-pub fn built_on(moved: &[u64; MAX_LIVE], live: usize, i: usize) -> bool
-    requires { ⌜ (i < live) × (live ≤ maxLive) ⌝ }
-    ensures { λ r. ⌜ r ≡ builtOnIn live (now (moved .entry)) i ⌝ }
-{
-    let later = moved_from(moved, live, i + 1);
-    shares(moved[i], later)
 }

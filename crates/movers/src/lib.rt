@@ -1,5 +1,7 @@
 // Which live firing moved a base last, and which stands on top of it, by the moved sets of the live firings in their order.
-// What the way back (document 02, T-04) takes back first.
+// What the way back (document 02, T-04) takes back first; the table that a record keeps (T-06) is in its own module.
+pub mod table;
+
 ghost use mathlib.Core.Path.{_≡_};
 ghost use mathlib.Core.Bool.{false};
 ghost use Prim.Native.Nat.{_<_, _≤_};

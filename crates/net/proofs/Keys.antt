@@ -17,7 +17,7 @@ use Rattle.net.specs.Tests.{pick}
 use Rattle.net.specs.Firing.{inSet}
 use Rattle.net.specs.Journal.{LiveLine, sameKey, highestLive, isLive, lineOf, without, common, builtOn}
 use Rattle.net.specs.declared.Key.{Key}
-use Rattle.net.proofs.Tests.{fails, and-l, and-r, and-i, or-l, or-r, or-no-l, or-no-r, any-i, any-e, keep-mem, mem-keep}
+use Rattle.net.proofs.Tests.{fails, and-l, and-r, and-i, or-l, or-r, or-no-l, or-no-r, or-e, any-i, any-e, keep-mem, mem-keep}
 
 -- ---- keys in order
 
@@ -154,6 +154,11 @@ common-i [] n p h k = h
 common-i (a ∷ m) [] p h k = k
 common-i (a ∷ m) (b ∷ n) zero h k = or-l (a && b) (common m n) (and-i a b h k)
 common-i (a ∷ m) (b ∷ n) (suc p) h k = or-r (a && b) (common m n) (common-i m n p h k)
+
+pub common-e : (m n : List Bool) → common m n ≡ true → (p : ℕ) × (inSet m p ≡ true) × (inSet n p ≡ true)
+common-e [] n h = both false h refl
+common-e (a ∷ m) [] h = both false h refl
+common-e (a ∷ m) (b ∷ n) h = elim (or-e (a && b) (common m n) h) [ inl e ↦ (zero, and-l a b e, and-r a b e) | inr e ↦ let (p, u, v) = common-e m n e in (suc p, u, v) ]
 
 pub independent-later : (l : LiveLine) (ys : List LiveLine) → ((j : LiveLine) → Mem j ys → l .key .0 < j .key .0) → builtOn ys l ≡ false → IndependentOfAll inSet (l .moved) ys
 independent-later l [] h b = tt

@@ -113,11 +113,11 @@ module _ (s b : List ℕ) (accepted : clear (sheetChecks s) ≡ true) where
 
   -- what the closing lines ask of the record
   pub few-live : ran .session .firings .live ≤ maxLive
-  few-live = live-few s (ran .session .marking) (ran .session .firings) (ran .session .given) (ran-sound s b (freshOf s) zeroTally (fresh-sound s accepted))
+  few-live = live-few s (ran .session .marking) (ran .session .firings) (ran .session .given) (ran-sound s b (freshOf s) zeroTally (fresh-sound s accepted) .passed)
 
   pub few-bonds : ran .session .marking .count ≤ maxBonds
   unfolding soundIn
-  few-bonds = leb-true (ran .session .marking .count) maxBonds (and-l _ _ (and-l _ _ (and-l _ _ (ran-sound s b (freshOf s) zeroTally (fresh-sound s accepted) .sound))))
+  few-bonds = leb-true (ran .session .marking .count) maxBonds (and-l _ _ (and-l _ _ (and-l _ _ (ran-sound s b (freshOf s) zeroTally (fresh-sound s accepted) .passed .sound))))
 
   -- words and values that were stored in longer lists
   words-many : length (wordsOf ran) ≡ howMany b

@@ -1,20 +1,19 @@
--- Laws of the journal's lines that the published history needs: the highest key, common bases.
+-- Laws of the journal's lines that the published history needs: the highest key, what was built on a line.
 -- Assumes nothing.
 use mathlib.Core.Path.{_≡_, refl}
 use mathlib.Core.Logic.{_⊎_, inl, inr}
-use mathlib.Core.Bool.{Bool, true, false, _&&_}
+use mathlib.Core.Bool.{true}
 use mathlib.Core.List.{List, [], _∷_}
-use Prim.Native.Nat.{ℕ, zero, suc, _<_}
+use Prim.Native.Nat.{_<_}
 use native.Mathlib.Omega.{arith}
 use lib.Dec.{leb}
 use borrow.Author.Tests.{leb-true, leb-false}
 use Rattle.causal.specs.Lists.{Mem}
 use Rattle.causal.specs.Reorderings.{Dependent}
-use Rattle.causal.proofs.Tests.{test, both}
+use Rattle.causal.proofs.Tests.{test}
 use Rattle.net.specs.Firing.{inSet}
 use Rattle.net.specs.Journal.{LiveLine, highestLive, common, builtOn}
-use Rattle.net.proofs.Tests.{and-l, and-r, or-e}
-use Rattle.net.proofs.Keys.{built-e, built-i, common-i}
+use Rattle.net.proofs.Keys.{built-e, built-i, common-e, common-i}
 
 -- ---- the highest key
 
@@ -30,11 +29,6 @@ highest-is (l ∷ ls) = test (leb (highestLive ls .0) (l .key .0))
     higher a (inr (h, m, e)) = inr (h, inr m, omega arith)
 
 -- ---- refusal 20
-
-common-e : (m n : List Bool) → common m n ≡ true → (p : ℕ) × (inSet m p ≡ true) × (inSet n p ≡ true)
-common-e [] n h = both false h refl
-common-e (a ∷ m) [] h = both false h refl
-common-e (a ∷ m) (b ∷ n) h = elim (or-e (a && b) (common m n) h) [ inl e ↦ (zero, and-l a b e, and-r a b e) | inr e ↦ let (p, u, v) = common-e m n e in (suc p, u, v) ]
 
 -- a later line with a common base, and 20
 pub builtOn-e : (ls : List LiveLine) (l : LiveLine) → builtOn ls l ≡ true → (h : LiveLine) × Mem h ls × (l .key .0 < h .key .0) × Dependent inSet (l .moved) (h .moved)

@@ -20,11 +20,11 @@ use Rattle.net.proofs.Tests.{fails, and-l, and-r, or-no-l, or-no-r, any-e}
 use Rattle.net.proofs.Tables.{length-table, getD-table, getD-table-all}
 use Rattle.net.proofs.Keys.{Up}
 use Rattle.words.specs.Sets.{setOf, packed}
-use Rattle.words.proofs.Bits.{no-bases}
+use Rattle.words.proofs.Bits.{set-size, no-bases}
 use Rattle.firings.specs.Lines.{setsOf, firingsOf}
-use Rattle.firings.specs.Search.{indexOf, builtOnIn}
+use Rattle.firings.specs.Search.{indexOf}
 use Rattle.firings.proofs.Laid.{getD-front, mem-at}
-use Rattle.firings.proofs.Built.{built-lines}
+use Rattle.firings.proofs.Built.{builtOnIn, built-lines}
 use Rattle.reasons.specs.Reasons.{builtAfter, inBoth, laterAt, commonAt}
 use Rattle.net.proofs.Firsts.{first-on, first-holds}
 use Rattle.reasons.proofs.Named.{refused-20}
@@ -59,14 +59,9 @@ common-holds a b u v h =
     let p = firstAt (inBoth a b) (table maxBases (λ q. q)) in
     (l, and-l (inSet a p) (inSet b p) k, and-r (inSet a p) (inSet b p) k)
 
-length-set-of : (n w : ℕ) → length (setOf n w) ≡ n
-unfolding setOf
-length-set-of zero w = refl
-length-set-of (suc n) w = ap suc (length-set-of n (w / 2))
-
 pub word-common-holds : (a b : ℕ) → common (setOf maxBases a) (setOf maxBases b) ≡ true
     → (commonAt a b < maxBases) × (inSet (setOf maxBases a) (commonAt a b) ≡ true) × (inSet (setOf maxBases b) (commonAt a b) ≡ true)
-word-common-holds a b h = common-holds (setOf maxBases a) (setOf maxBases b) (length-set-of maxBases a) (length-set-of maxBases b) h
+word-common-holds a b h = common-holds (setOf maxBases a) (setOf maxBases b) (set-size maxBases a) (set-size maxBases b) h
 
 -- ---- by the lines
 

@@ -1,12 +1,12 @@
 // A session under test: the record and the tally that the command before left, the record that edits begin with, how many
 // cases were run and differed. Each command is the customer's call with a lent tally. Its answer and key are compared with those
 // worked out from document 01; the tally has one more in one count, and a refused command hands back the very record.
-use crate::same::same_record;
 use case_tools::bytes::one_more;
 use commands::Answer;
 use commands::value_of;
 use commands::word_of;
 use net::Key;
+use same_record::same_record;
 use session::Record;
 use session::command_with;
 use tally::Tally;

@@ -4,7 +4,9 @@
 //   1 bond i is v / 256, v % 256    4 firing v is of transition i    7 firing i is 0
 //   2 v is 0: there are i bonds     5 firing i has key v             8 firings i and v are exchanged, the keys left
 //   9 the highest key given is v
-// Where v is 1, 2 and 3 take i from the highest number.
+// Where v is 1, 2 and 3 take i from the highest number. Where the firings are changed the table of last movers is theirs again, so that
+// nothing else is wrong.
+use case_tools::movers::last_movers;
 use firings::Firings;
 use marking::Marking;
 use net::Key;
@@ -84,6 +86,8 @@ pub fn edited(r: Record, field: u64, i: usize, v: u64) -> Record {
         return next;
     }
     let f = edited_firings(r.firings, field, i, v);
+    let movers = last_movers(f.live, &f.keys, &f.moved);
     next.firings = f;
+    next.movers = movers;
     next
 }

@@ -7,7 +7,6 @@ mod blocks;
 mod case;
 mod edits;
 mod lines;
-mod same;
 
 use blocks::block_holds;
 use case::Case;

@@ -6,6 +6,7 @@ use crate::put::put_coupling;
 use crate::put::put_item;
 use crate::put::put_text;
 use commands::Answer;
+use firings::Firings;
 use marking::Marking;
 use net::MAX_BASES;
 use net::MAX_BONDS;
@@ -85,8 +86,7 @@ pub fn put_couplings(buf: &mut [u8], m: Marking) -> usize {
 }
 
 // `live` and the live serials.
-pub fn put_live(buf: &mut [u8], r: Record) -> usize {
-    let f = r.firings;
+pub fn put_live(buf: &mut [u8], f: Firings) -> usize {
     let live = f.live;
     let keys = f.keys;
     let mut pos = put_text(buf, 0, b"live");

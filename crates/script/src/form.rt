@@ -11,8 +11,8 @@ pub enum Order {
     Bytes,
 }
 
-// A question: about the record, about the last refusal, about the sheet with some bytes changed or cut short, and for a page of
-// the live firings or a row of it.
+// A question: about the record, about the last refusal, about the sheet with some bytes changed or cut short, for a page of
+// the live firings or a row of it, and about what can come off.
 pub enum Question {
     Where,
     Couplings,
@@ -25,6 +25,9 @@ pub enum Question {
     Cut(u8),
     Page(u16),
     Row(u16, u16),
+    Lamp(u16),
+    Lamps,
+    Movers,
 }
 
 pub enum Form {
@@ -93,6 +96,20 @@ fn page_form(line: &[u8]) -> Form {
     changed_form(line)
 }
 
+// What can come off, and which firing moved each part last.
+fn lamp_form(line: &[u8]) -> Form {
+    if is(line, b"lamp 65535") {
+        return Form::Asks(Question::Lamp(number(line, 0)));
+    }
+    if is(line, b"lamps") {
+        return Form::Asks(Question::Lamps);
+    }
+    if is(line, b"movers") {
+        return Form::Asks(Question::Movers);
+    }
+    page_form(line)
+}
+
 // Questions about the record.
 fn question_form(line: &[u8]) -> Form {
     if is(line, b"where") {
@@ -116,7 +133,7 @@ fn question_form(line: &[u8]) -> Form {
     if is(line, b"why") {
         return Form::Asks(Question::Why);
     }
-    page_form(line)
+    lamp_form(line)
 }
 
 // Commands.

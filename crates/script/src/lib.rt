@@ -10,6 +10,7 @@ mod files;
 mod form;
 mod hex;
 mod pages;
+mod panel;
 mod part;
 pub mod program;
 mod put;

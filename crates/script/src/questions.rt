@@ -11,6 +11,9 @@ use crate::changed::put_with;
 use crate::form::Question;
 use crate::pages::put_page;
 use crate::pages::put_row;
+use crate::panel::put_lamp;
+use crate::panel::put_lamps;
+use crate::panel::put_movers;
 use crate::part::front;
 use crate::put::put_phrase;
 use crate::reason::put_reason;
@@ -69,12 +72,13 @@ fn put_why(d: Desk, sheet: &[u8], answer: &mut [u8]) -> usize {
 pub fn put_question(d: Desk, q: Question, line: &[u8], sheet: &[u8], answer: &mut [u8]) -> usize {
     let r = d.record;
     let m = r.marking;
+    let f = r.firings;
     let t = d.tally;
     let s = front(sheet, d.length);
     match q {
         Question::Where => put_where(answer, m, base_count(s) as usize),
         Question::Couplings => put_couplings(answer, m),
-        Question::Live => put_live(answer, r),
+        Question::Live => put_live(answer, f),
         Question::Moved(k) => put_moved(answer, r, k),
         Question::StepOf(k) => put_step(answer, r, k),
         Question::Tally => put_tally(answer, t),
@@ -83,5 +87,8 @@ pub fn put_question(d: Desk, q: Question, line: &[u8], sheet: &[u8], answer: &mu
         Question::Cut(n) => put_cut(line, n, s, answer),
         Question::Page(k) => put_page(answer, r, s, k),
         Question::Row(k, i) => put_row(answer, r, s, k, i),
+        Question::Lamp(k) => put_lamp(answer, r, s, k),
+        Question::Lamps => put_lamps(answer, r, s),
+        Question::Movers => put_movers(answer, r, base_count(s) as usize),
     }
 }

@@ -21,4 +21,4 @@ module _ (s : List ℕ) (r : Record) (c : List ℕ) where
   pub refused-by : (n : ℕ) → n ≡ first (recordChecks s r []) → (n ≡ 0 → ⊥) → refusal r n ≡ outcomeFor s r c
   refused-by n e h =
       let own : List Check = checks (netOf s) (heldIn s r) c in
-      sym (by-first false n (refused-clear s (r .marking) (r .firings) (r .given) n e h own) (sym (refused-first s (r .marking) (r .firings) (r .given) n e h own)))
+      sym (by-first false n (refused-clear s (r .marking) (r .firings) (r .given) (r .movers) n e h own) (sym (refused-first s (r .marking) (r .firings) (r .given) (r .movers) n e h own)))

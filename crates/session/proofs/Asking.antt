@@ -7,12 +7,11 @@ use Prim.Native.Nat.{ℕ}
 use Rattle.net.specs.Tests.{pick}
 use Rattle.net.specs.Checks.{Check, clear, first}
 use Rattle.format.specs.NetOf.{netOf}
-use Rattle.sound.specs.Soundness.{Passed}
 use Rattle.sound.proofs.Refusing.{refused-first, refused-clear, passed-first, passed-clear}
 use Rattle.way_back.specs.Ways.{wayBack}
 use Rattle.way_back.specs.Answer.{wayOf, noWayBack, wayNumber, wayChecks, wayFrom}
 use Rattle.way_back.specs.declared.WayBack.{WayBack}
-use Rattle.session.specs.Records.{heldIn}
+use Rattle.session.specs.Records.{heldIn, Sound}
 use Rattle.session.specs.Commands.{recordChecks}
 use Rattle.session.specs.Ways.{wayBackChecks, wayBackOf}
 use Rattle.session.specs.declared.Record.{Record}
@@ -28,12 +27,12 @@ module _ (s : List ℕ) (r : Record) (w : List ℕ) where
 
   pub way-refused : (n : ℕ) → n ≡ first (recordChecks s r []) → (n ≡ 0 → ⊥) → noWayBack n ≡ wayBackOf s r w
   way-refused n e h =
-      sym (by-first false n (refused-clear s (r .marking) (r .firings) (r .given) n e h own) (sym (refused-first s (r .marking) (r .firings) (r .given) n e h own)))
+      sym (by-first false n (refused-clear s (r .marking) (r .firings) (r .given) (r .movers) n e h own) (sym (refused-first s (r .marking) (r .firings) (r .given) (r .movers) n e h own)))
 
-  pub way-asked : Passed s (r .marking) (r .firings) (r .given) → wayFrom (netOf s) w (heldIn s r) ≡ wayBackOf s r w
+  pub way-asked : Sound s r → wayFrom (netOf s) w (heldIn s r) ≡ wayBackOf s r w
   unfolding wayFrom
   way-asked p =
-      sym (by-first (clear own) (first own) (passed-clear s (r .marking) (r .firings) (r .given) p own) (passed-first s (r .marking) (r .firings) (r .given) p own))
+      sym (by-first (clear own) (first own) (passed-clear s (r .marking) (r .firings) (r .given) (r .movers) p own) (passed-first s (r .marking) (r .firings) (r .given) (r .movers) p own))
 
   -- the answer's number is that of the first check that holds
   number-of : (a : Bool) (n : ℕ) → clear (wayBackChecks s r w) ≡ a → first (wayBackChecks s r w) ≡ n → (a ≡ true → n ≡ 0) → wayNumber (pick a (wayOf (wayBack (netOf s) w (heldIn s r))) (noWayBack n) .answer) ≡ n

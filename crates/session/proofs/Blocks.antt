@@ -11,11 +11,11 @@ use borrow.Author.Tests.{ltb-false, eqb-true, eqb-false}
 use Rattle.net.specs.Tests.{pick}
 use Rattle.net.specs.Checks.{Check, check, clear, first}
 use Rattle.net.proofs.Tests.{or-no-l, or-no-r}
-use Rattle.sound.specs.Soundness.{Passed}
 use Rattle.sound.proofs.Refusing.{refused-first, refused-clear, passed-first, passed-clear}
 use Rattle.tally.specs.declared.Tally.{Tally}
 use Rattle.command_list.specs.Commands.{howMany}
 use Rattle.command_list.specs.Block.{maxBlock, unfitFor, turnedBy}
+use Rattle.session.specs.Records.{Sound}
 use Rattle.session.specs.Commands.{recordChecks}
 use Rattle.session.specs.Lists.{ranOf, RunGives}
 use Rattle.session.specs.Block.{blockChecks, blockNumber, Handed, ranBlock, turnedAway, notRun, blockOf, Blocked}
@@ -53,15 +53,15 @@ module _ (s : List ℕ) (r : Record) (t : Tally) (b words values : List ℕ) whe
       }
 
   away-refused : (n : ℕ) → n ≡ first (recordChecks s r []) → (n ≡ 0 → ⊥) → (x : BlockCounted) → x ≡ turnedAway r n t → Blocked s r t b words values (x .outcome) (x .tally) words values
-  away-refused n e h = away n (refused-clear s (r .marking) (r .firings) (r .given) n e h own) (refused-first s (r .marking) (r .firings) (r .given) n e h own)
+  away-refused n e h = away n (refused-clear s (r .marking) (r .firings) (r .given) (r .movers) n e h own) (refused-first s (r .marking) (r .firings) (r .given) (r .movers) n e h own)
 
-  away-unfit : Passed s (r .marking) (r .firings) (r .given) → unfitFor b (length words) (length values) ≡ true → (x : BlockCounted) → x ≡ turnedAway r 26 t
+  away-unfit : Sound s r → unfitFor b (length words) (length values) ≡ true → (x : BlockCounted) → x ≡ turnedAway r 26 t
       → Blocked s r t b words values (x .outcome) (x .tally) words values
-  away-unfit p h = away 26 (passed-clear s (r .marking) (r .firings) (r .given) p own ∙ ap (λ (a : Bool). not a && true) h)
-      (sym (passed-first s (r .marking) (r .firings) (r .given) p own ∙ ap (λ (a : Bool). pick a 26 0) h))
+  away-unfit p h = away 26 (passed-clear s (r .marking) (r .firings) (r .given) (r .movers) p own ∙ ap (λ (a : Bool). not a && true) h)
+      (sym (passed-first s (r .marking) (r .firings) (r .given) (r .movers) p own ∙ ap (λ (a : Bool). pick a 26 0) h))
 
   -- by what the two tests say together
-  module _ (n : ℕ) (e : n ≡ first (recordChecks s r [])) (p : n ≡ 0 → Passed s (r .marking) (r .firings) (r .given)) (k : ℕ) (q : k ≡ turnedBy n b (length words) (length values)) where
+  module _ (n : ℕ) (e : n ≡ first (recordChecks s r [])) (p : n ≡ 0 → Sound s r) (k : ℕ) (q : k ≡ turnedBy n b (length words) (length values)) where
     pub turned-away : (k ≡ 0 → ⊥) → (x : BlockCounted) → x ≡ turnedAway r k t → Blocked s r t b words values (x .outcome) (x .tally) words values
     turned-away d x y = go (eqb n 0) refl (unfitFor b (length words) (length values)) refl
       where
@@ -70,20 +70,20 @@ module _ (s : List ℕ) (r : Record) (t : Tally) (b words values : List ℕ) whe
         go true z false u = absurd (d (q ∙ rw (z, u)))
         go false z u w = away-refused n e (eqb-false n 0 z) x (y ∙ ap (λ (m : ℕ). turnedAway r m t) (q ∙ rw z))
 
-    pub not-turned : k ≡ 0 → Passed s (r .marking) (r .firings) (r .given) × (unfitFor b (length words) (length values) ≡ false)
+    pub not-turned : k ≡ 0 → Sound s r × (unfitFor b (length words) (length values) ≡ false)
     not-turned d = go (eqb n 0) refl (unfitFor b (length words) (length values)) refl
       where
-        go : (z : Bool) → eqb n 0 ≡ z → (u : Bool) → unfitFor b (length words) (length values) ≡ u → Passed s (r .marking) (r .firings) (r .given) × (unfitFor b (length words) (length values) ≡ false)
+        go : (z : Bool) → eqb n 0 ≡ z → (u : Bool) → unfitFor b (length words) (length values) ≡ u → Sound s r × (unfitFor b (length words) (length values) ≡ false)
         go true z true u = let h : k ≡ 26 = q ∙ rw (z, u) in absurd (let g : ⊥ = omega arith in g)
         go true z false u = (p (eqb-true n 0 z), u)
         go false z u w = let h : k ≡ n = q ∙ rw z in absurd (eqb-false n 0 z (sym h ∙ d))
 
-  pub block-ran : Passed s (r .marking) (r .firings) (r .given) → unfitFor b (length words) (length values) ≡ false
+  pub block-ran : Sound s r → unfitFor b (length words) (length values) ≡ false
       → (next : Record) (u : Tally) (words′ values′ : List ℕ) (n : ℕ) → n ≡ howMany b → RunGives (ranOf s b r t) words values next u words′ values′
       → Blocked s r t b words values (record { answer = Ran; count = n; session = next }) u words′ values′
   block-ran p h next u words′ values′ n e g =
-      let c : clear all-checks ≡ true = passed-clear s (r .marking) (r .firings) (r .given) p own ∙ ap (λ (a : Bool). not a && true) h in
-      let f : first all-checks ≡ 0 = passed-first s (r .marking) (r .firings) (r .given) p own ∙ ap (λ (a : Bool). pick a 26 0) h in
+      let c : clear all-checks ≡ true = passed-clear s (r .marking) (r .firings) (r .given) (r .movers) p own ∙ ap (λ (a : Bool). not a && true) h in
+      let f : first all-checks ≡ 0 = passed-first s (r .marking) (r .firings) (r .given) (r .movers) p own ∙ ap (λ (a : Bool). pick a 26 0) h in
       let y : ranBlock (howMany b) words values (ranOf s b r t) ≡ blockOf s r t b words values = sym (by-first true 0 c f) in
       let o : record { answer = Ran; count = n; session = next } ≡ ranBlock (howMany b) words values (ranOf s b r t) .outcome = λ i. record { answer = Ran; count = e i; session = g .session-is i } in
       record {

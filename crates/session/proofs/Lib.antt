@@ -9,4 +9,5 @@ pub mod Answers
 pub mod Lending
 pub mod Listing
 pub mod Asking
+pub mod Lamps
 pub mod Blocks

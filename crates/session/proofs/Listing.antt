@@ -7,8 +7,8 @@ use Prim.Native.Nat.{ℕ}
 use Rattle.net.specs.Tests.{pick}
 use Rattle.net.specs.Checks.{clear, first}
 use Rattle.live_list.specs.List.{listed, notListed}
-use Rattle.sound.specs.Soundness.{Passed}
 use Rattle.sound.proofs.Refusing.{refused-clear, passed-clear}
+use Rattle.session.specs.Records.{Sound}
 use Rattle.session.specs.Commands.{recordChecks}
 use Rattle.session.specs.Live.{liveFirings}
 use Rattle.session.specs.declared.Record.{Record}
@@ -19,7 +19,7 @@ module _ (s : List ℕ) (r : Record) where
   by-first a n e f = λ i. pick (e i) (listed (r .firings)) (notListed (f i))
 
   pub list-refused : (n : ℕ) → n ≡ first (recordChecks s r []) → (n ≡ 0 → ⊥) → notListed n ≡ liveFirings s r
-  list-refused n e h = sym (by-first false n (refused-clear s (r .marking) (r .firings) (r .given) n e h []) (sym e))
+  list-refused n e h = sym (by-first false n (refused-clear s (r .marking) (r .firings) (r .given) (r .movers) n e h []) (sym e))
 
-  pub list-given : Passed s (r .marking) (r .firings) (r .given) → listed (r .firings) ≡ liveFirings s r
-  list-given p = sym (by-first true (first (recordChecks s r [])) (passed-clear s (r .marking) (r .firings) (r .given) p []) (λ _. first (recordChecks s r [])))
+  pub list-given : Sound s r → listed (r .firings) ≡ liveFirings s r
+  list-given p = sym (by-first true (first (recordChecks s r [])) (passed-clear s (r .marking) (r .firings) (r .given) (r .movers) p []) (λ _. first (recordChecks s r [])))

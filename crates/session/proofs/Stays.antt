@@ -11,6 +11,7 @@ use Rattle.commands.specs.declared.Done.{Done}
 use Rattle.net.proofs.Journal.{Held, act-held}
 use Rattle.format.specs.NetOf.{netOf}
 use Rattle.sound.proofs.Holds.{rule, held}
+use Rattle.sound.proofs.Refusing.{kept-is}
 use Rattle.tally.specs.Counts.{countedOf}
 use Rattle.tally.specs.declared.Tally.{Tally}
 use Rattle.session.specs.Records.{heldIn, recordOf, Sound}
@@ -24,33 +25,33 @@ use Rattle.session.specs.declared.run.Stepped.{Stepped}
 
 module _ (s : List ℕ) (r : Record) (S : Sound s r) where
   holds : Held (netOf s) (heldIn s r)
-  holds = held s (r .marking) (r .firings) (r .given) S
+  holds = held s (r .marking) (r .firings) (r .given) (S .passed)
 
   -- the record is laid out as the journal that it holds
   laid-out : r ≡ recordOf (heldIn s r)
   unfolding recordOf
-  laid-out = λ i. record { marking = S .laid-out .0 i; firings = S .laid-out .1 i; given = r .given }
+  laid-out = λ i. record { marking = S .passed .laid-out .0 i; firings = S .passed .laid-out .1 i; movers = S .movers i; given = r .given }
 
   -- a command does to the record what it does to the journal
   acts : (c : List ℕ) → outcomeFor s r c ≡ outcomeOf (act (netOf s) (heldIn s r) c)
-  acts c = ap (λ (x : Record). outcomeFor s x c) laid-out ∙ step s (S .accepted) (heldIn s r) c holds
+  acts c = ap (λ (x : Record). outcomeFor s x c) laid-out ∙ step s (S .passed .accepted) (heldIn s r) c holds
 
   -- the checks of the sheet and of the record need not be made again
   pub performs : (c : List ℕ) → performOf s r c ≡ outcomeFor s r c
-  performs c = sym (sound-performs s (S .accepted) r c (S .sound))
+  performs c = sym (sound-performs s (S .passed .accepted) r c (kept-is s (r .marking) (r .firings) (r .given) (r .movers) S))
 
   -- what a command in place gives, put together, is the outcome
-  pub did-performs : (c : List ℕ) (d : Done) (m : Marking) (f : Firings) → Did (act (netOf s) (heldIn s r) c) d m f
-      → record { answer = d .answer; key = d .key; session = record { marking = m; firings = f; given = d .given } } ≡ performOf s r c
+  pub did-performs : (c : List ℕ) (d : Done) (m : Marking) (f : Firings) (ms : List ℕ) → Did (act (netOf s) (heldIn s r) c) d m f ms
+      → record { answer = d .answer; key = d .key; session = record { marking = m; firings = f; movers = ms; given = d .given } } ≡ performOf s r c
   unfolding recordOf
-  did-performs c d m f D =
-      let o : record { answer = d .answer; key = d .key; session = record { marking = m; firings = f; given = d .given } } ≡ outcomeOf (act (netOf s) (heldIn s r) c) =
-      λ i. record { answer = D .answer i; key = D .key i; session = record { marking = D .marking i; firings = D .firings i; given = D .given i } } in
+  did-performs c d m f ms D =
+      let o : record { answer = d .answer; key = d .key; session = record { marking = m; firings = f; movers = ms; given = d .given } } ≡ outcomeOf (act (netOf s) (heldIn s r) c) =
+      λ i. record { answer = D .answer i; key = D .key i; session = record { marking = D .marking i; firings = D .firings i; movers = D .movers i; given = D .given i } } in
       o ∙ sym (performs c ∙ acts c)
 
   pub outcome-sound : (c : List ℕ) → Sound s (outcomeFor s r c .session)
   outcome-sound c = subst (λ (o : Outcome). Sound s (o .session)) (sym (acts c))
-      (held-sound s (S .accepted) (act (netOf s) (heldIn s r) c .journal) (act-held (netOf s) (rule s (r .marking) (r .firings) (r .given) S) (heldIn s r) c holds))
+      (held-sound s (S .passed .accepted) (act (netOf s) (heldIn s r) c .journal) (act-held (netOf s) (rule s (r .marking) (r .firings) (r .given) (S .passed)) (heldIn s r) c holds))
 
   pub sound-stays : (c : List ℕ) → Sound s (performOf s r c .session)
   sound-stays c = subst (λ (o : Outcome). Sound s (o .session)) (sym (performs c)) (outcome-sound c)

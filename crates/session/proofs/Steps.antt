@@ -14,6 +14,7 @@ use Rattle.net.proofs.Journal.{Held, act-held, begin-held}
 use Rattle.format.specs.NetOf.{netOf}
 use Rattle.sheet.specs.Checks.{sheetChecks}
 use Rattle.sheet.proofs.Accepted.{promised}
+use Rattle.sound.proofs.Refusing.{kept-is}
 use Rattle.sound.proofs.Fits as Fits
 use Rattle.tally.specs.declared.Tally.{Tally}
 use Rattle.session.specs.Records.{heldIn, recordOf, soundFor, Sound}
@@ -56,12 +57,12 @@ module _ (s : List ℕ) (accepted : clear (sheetChecks s) ≡ true) where
 
   pub held-sound : (j : Journal) → Held (netOf s) j → Sound s (recordOf j)
   unfolding recordOf
-  held-sound j H = Fits.held-passed s accepted j H
+  held-sound j H = Fits.held-kept s accepted j H
 
   -- a command on the record of a journal gives the record of the journal after it, and the journal's answer
   pub step : (j : Journal) (c : List ℕ) → Held (netOf s) j → outcomeFor s (recordOf j) c ≡ outcomeOf (act (netOf s) j c)
   unfolding performOf
-  step j c H = sound-performs s accepted (recordOf j) c (held-sound j H .sound)
+  step j c H = sound-performs s accepted (recordOf j) c (kept-is s (recordOf j .marking) (recordOf j .firings) (recordOf j .given) (recordOf j .movers) (held-sound j H))
       ∙ ap (λ (h : Journal). pick (clear (checks (netOf s) h c)) (outcomeOf (pick (eqb (kindOf c) 1) (fireReply (netOf s) h (transitionNamed c)) (undoReply (netOf s) h (keyNamed h c)))) (refusal (recordOf j) (first (checks (netOf s) h c)))) (held-back j H)
       ∙ by-checks (clear (checks (netOf s) j c))
     where

@@ -61,7 +61,7 @@ performOf s r c = pick (clear (checks (netOf s) (heldIn s r) c)) (acceptOf s r c
 
 -- What every call on a record checks before its own: 1 to 9, then 10.
 abbrev pub recordChecks : List ℕ → Record → List Check → List Check
-recordChecks s r own = checksIn s (r .marking) (r .firings) (r .given) own
+recordChecks s r own = checksIn s (r .marking) (r .firings) (r .given) (r .movers) own
 
 -- All checks of a command, in checking order: 1 to 9, 10, then 21, or 11 to 20.
 abbrev pub commandChecks : List ℕ → Record → List ℕ → List Check

@@ -7,6 +7,6 @@ use Rattle.marking.specs.Held.{holding}
 use Rattle.firings.specs.Lines.{lying}
 use Rattle.session.specs.declared.Record.{Record}
 
--- places, bonds, live firings, the highest key given
-abbrev pub recordAt : List ℕ → ℕ → List ℕ → List ℕ → ℕ → List ℕ → List ℕ → List ℕ → Key → Record
-recordAt places count lo hi live transitions keys moved k = record { marking = holding places count lo hi; firings = lying live transitions keys moved; given = k }
+-- places, bonds, live firings, last movers, the highest key given
+abbrev pub recordAt : List ℕ → ℕ → List ℕ → List ℕ → ℕ → List ℕ → List ℕ → List ℕ → List ℕ → Key → Record
+recordAt places count lo hi live transitions keys moved movers k = record { marking = holding places count lo hi; firings = lying live transitions keys moved; movers = movers; given = k }

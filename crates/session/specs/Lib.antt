@@ -4,6 +4,7 @@ pub mod Commands
 pub mod Lent
 pub mod Live
 pub mod Ways
+pub mod Lamps
 pub mod Runs
 pub mod Lists
 pub mod Block

@@ -3,11 +3,13 @@
 use mathlib.Core.Bool.{Bool}
 use mathlib.Core.List.{List}
 use Prim.Native.Nat.{ℕ}
+use Rattle.net.specs.Limits.{maxBases}
 use Rattle.net.specs.Journal.{Journal}
 use Rattle.format.specs.Parts.{basesOf}
 use Rattle.marking.specs.Form.{laid}
 use Rattle.firings.specs.Lines.{firingsOf}
-use Rattle.sound.specs.Soundness.{journalIn, soundIn, Passed}
+use Rattle.movers.specs.Lamp.{lastMovers}
+use Rattle.sound.specs.Soundness.{journalIn, keptIn, Kept}
 use Rattle.session.specs.declared.Record.{Record}
 
 -- the journal that a record holds, on a sheet
@@ -16,13 +18,14 @@ heldIn s r = journalIn (basesOf s) (r .marking) (r .firings) (r .given)
 
 -- a journal in the record's form
 unfoldable pub recordOf : Journal → Record
-recordOf j = record { marking = laid (j .marking); firings = firingsOf (j .lines); given = j .given }
+recordOf j = record { marking = laid (j .marking); firings = firingsOf (j .lines); movers = lastMovers maxBases (j .lines); given = j .given }
 
 -- Sound for a sheet: it has the form, and its firings, run forward alone from the start, are each accepted with those
--- moved bases and end in its places and bonds; the highest key given is no lower than any of theirs (02, T-03).
+-- moved bases and end in its places and bonds; the highest key given is no lower than any of theirs (02, T-03), and the table of
+-- last movers is theirs (02, T-06).
 abbrev pub soundFor : List ℕ → Record → Bool
-soundFor s r = soundIn s (r .marking) (r .firings) (r .given)
+soundFor s r = keptIn s (r .marking) (r .firings) (r .given) (r .movers)
 
 -- What an inner command asks: an accepted sheet, a sound record, and nothing in its arrays but what it holds.
 abbrev pub Sound : List ℕ → Record → Type 0
-Sound s r = Passed s (r .marking) (r .firings) (r .given)
+Sound s r = Kept s (r .marking) (r .firings) (r .given) (r .movers)

@@ -58,6 +58,7 @@ impl Record {
     {
         let m = self.marking;
         let f = self.firings;
+        let movers = self.movers;
         let refusal = record_refusal(
             sheet,
             f.live,
@@ -68,6 +69,7 @@ impl Record {
             m.count,
             &m.lo,
             &m.hi,
+            &movers,
             self.given,
         );
         let turned = block_refusal(refusal, block, words.len(), values.len());

@@ -1,6 +1,7 @@
 // Commands on the session record (document 01, commands, record, tally): the record goes in by value and comes out.
 // A customer's command checks sheet and record first; `run` asks for a sound record.
 pub mod block;
+mod lamp;
 mod live;
 pub mod run;
 mod ways;
@@ -19,11 +20,12 @@ use net::MAX_BASES;
 use sound::record_refusal;
 use tally::Tally;
 
-// The session record: a marking, the live firings in strictly ascending keys, and the highest key ever given. Unused entries
-// hold 0.
+// The session record: a marking, the live firings in strictly ascending keys, for each base the key of the last live firing that
+// moved it (0 where none did), and the highest key ever given. Unused entries hold 0.
 pub struct Record {
     pub marking: Marking,
     pub firings: Firings,
+    pub movers: [u16; MAX_BASES],
     pub given: Key,
 }
 
@@ -77,6 +79,7 @@ impl Record {
         let mut transitions = f.transitions;
         let mut keys = f.keys;
         let mut moved = f.moved;
+        let mut movers = self.movers;
         let mut l = [0u8; MAX_BASES];
         let mut members = [0u64; MAX_BASES];
         label_in(&mut l, &mut members, &lo, &hi, m.count);
@@ -91,6 +94,7 @@ impl Record {
             &mut transitions,
             &mut keys,
             &mut moved,
+            &mut movers,
             &mut l,
             &mut members,
             self.given,
@@ -114,6 +118,7 @@ impl Record {
                     keys: keys,
                     moved: moved,
                 },
+                movers: movers,
                 given: given,
             },
         }
@@ -125,6 +130,7 @@ impl Record {
     {
         let m = self.marking;
         let f = self.firings;
+        let movers = self.movers;
         let refusal = record_refusal(
             sheet,
             f.live,
@@ -135,6 +141,7 @@ impl Record {
             m.count,
             &m.lo,
             &m.hi,
+            &movers,
             self.given,
         );
         if refusal != 0 {

@@ -14,6 +14,7 @@ impl Record {
     {
         let m = self.marking;
         let f = self.firings;
+        let movers = self.movers;
         let refusal = record_refusal(
             sheet,
             f.live,
@@ -24,6 +25,7 @@ impl Record {
             m.count,
             &m.lo,
             &m.hi,
+            &movers,
             self.given,
         );
         if refusal != 0 {

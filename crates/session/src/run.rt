@@ -57,18 +57,19 @@ fn step_in(
     transitions: &mut [u8; MAX_LIVE],
     keys: &mut [u16; MAX_LIVE],
     moved: &mut [u64; MAX_LIVE],
+    movers: &mut [u16; MAX_BASES],
     l: &mut [Base; MAX_BASES],
     members: &mut [u64; MAX_BASES],
     given: Key,
 ) -> Stepped
     requires { ⌜
-        Sound (now sheet) (recordAt (now places) count (now lo) (now hi) live (now transitions) (now keys) (now moved) given)
+        Sound (now sheet) (recordAt (now places) count (now lo) (now hi) live (now transitions) (now keys) (now moved) (now movers) given)
         × Labelled (now l) (now members) (bondsIn (now lo) (now hi) count) ⌝ }
     ensures { λ x. ⌜
         StepGives (commandOf (now (sheet .entry))
-        (recordAt (now (places .entry)) count (now (lo .entry)) (now (hi .entry)) live (now (transitions .entry)) (now (keys .entry)) (now (moved .entry)) given)
+        (recordAt (now (places .entry)) count (now (lo .entry)) (now (hi .entry)) live (now (transitions .entry)) (now (keys .entry)) (now (moved .entry)) (now (movers .entry)) given)
         t (now (bytes .entry))) x
-        (recordAt (now (places .exit)) (x .count) (now (lo .exit)) (now (hi .exit)) (x .live) (now (transitions .exit)) (now (keys .exit)) (now (moved .exit)) (x .given)) ⌝ }
+        (recordAt (now (places .exit)) (x .count) (now (lo .exit)) (now (hi .exit)) (x .live) (now (transitions .exit)) (now (keys .exit)) (now (moved .exit)) (now (movers .exit)) (x .given)) ⌝ }
     ensures { λ x. ⌜ Labelled (now (l .exit)) (now (members .exit)) (bondsIn (now (lo .exit)) (now (hi .exit)) (x .count)) ⌝ }
 {
     let done = perform_in(
@@ -82,6 +83,7 @@ fn step_in(
         transitions,
         keys,
         moved,
+        movers,
         l,
         members,
         given,
@@ -128,6 +130,7 @@ pub fn run(
     let mut transitions = f.transitions;
     let mut keys = f.keys;
     let mut moved = f.moved;
+    let mut movers = r.movers;
     let mut l = [0u8; MAX_BASES];
     let mut members = [0u64; MAX_BASES];
     label_in(&mut l, &mut members, &lo, &hi, count);
@@ -149,6 +152,7 @@ pub fn run(
             &mut transitions,
             &mut keys,
             &mut moved,
+            &mut movers,
             &mut l,
             &mut members,
             given,
@@ -176,6 +180,7 @@ pub fn run(
                 keys: keys,
                 moved: moved,
             },
+            movers: movers,
             given: given,
         },
         tally: counts,

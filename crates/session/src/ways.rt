@@ -18,6 +18,7 @@ impl Record {
     {
         let m = self.marking;
         let f = self.firings;
+        let movers = self.movers;
         let refusal = record_refusal(
             sheet,
             f.live,
@@ -28,6 +29,7 @@ impl Record {
             m.count,
             &m.lo,
             &m.hi,
+            &movers,
             self.given,
         );
         if refusal != 0 {

@@ -6,6 +6,7 @@ use crate::compare::differs;
 use crate::counts::SHEETS_REFUSED;
 use crate::counts::count_command;
 use case_tools::bytes::byte;
+use case_tools::movers::last_movers;
 use commands::Answer;
 use commands::value_of;
 use commands::word_of;
@@ -84,8 +85,8 @@ fn later(k: Key, key: u16) -> Key {
     if k.0 < key { Key(key) } else { k }
 }
 
-// The record with another key in the last live firing, if there is one, and a highest given that is not below it: it stays sound
-// where that key is above the others.
+// The record with another key in the last live firing, if there is one, that key in the table of last movers, and a highest given that
+// is not below it: it stays sound where that key is above the others.
 fn with_last_key(r: Record, key: u16) -> Record {
     let mut f = r.firings;
     let mut next = r;
@@ -93,7 +94,9 @@ fn with_last_key(r: Record, key: u16) -> Record {
         let i = (f.live - 1) % 256;
         f.keys[i] = key;
     }
+    let movers = last_movers(f.live, &f.keys, &f.moved);
     next.firings = f;
+    next.movers = movers;
     next.given = later(r.given, key);
     next
 }

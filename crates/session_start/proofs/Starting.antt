@@ -25,9 +25,9 @@ use Rattle.sound.proofs.Refusing.{sheet-clear, sheet-held}
 
 -- zeros in every array
 pub zeros : (f : Firings) → f ≡ firingsOf []
-    → record { marking = record { places = replicate maxBases 0; count = 0; lo = replicate maxBonds 0; hi = replicate maxBonds 0 }; firings = f; given = key 0 } ≡ zeroRecord
+    → record { marking = record { places = replicate maxBases 0; count = 0; lo = replicate maxBonds 0; hi = replicate maxBonds 0 }; firings = f; movers = replicate maxBases 0; given = key 0 } ≡ zeroRecord
 unfolding zeroRecord recordOf
-zeros f e = λ i. record { marking = record { places = replicate maxBases 0; count = 0; lo = replicate maxBonds 0; hi = replicate maxBonds 0 }; firings = e i; given = key 0 }
+zeros f e = λ i. record { marking = record { places = replicate maxBases 0; count = 0; lo = replicate maxBonds 0; hi = replicate maxBonds 0 }; firings = e i; movers = replicate maxBases 0; given = key 0 }
 
 module _ (s : List ℕ) (n : ℕ) (e : n ≡ first (sheetChecks s)) where
   pub refused : (r : Record) → (n ≡ 0 → ⊥) → r ≡ zeroRecord → record { answer = NotStarted n; session = r } ≡ startOf s
@@ -36,10 +36,10 @@ module _ (s : List ℕ) (n : ℕ) (e : n ≡ first (sheetChecks s)) where
       let q : clear (sheetChecks s) ≡ false = sheet-held s n e h in
       (λ i. record { answer = NotStarted (e i); session = z i }) ∙ sym (ap (λ (b : Bool). pick {X = Start} b (record { answer = Started; session = freshOf s }) (record { answer = NotStarted (first (sheetChecks s)); session = zeroRecord })) q)
 
-  pub started : (m : Marking) (f : Firings) → n ≡ 0 → m ≡ laid (startMarking s) → f ≡ firingsOf [] → record { answer = Started; session = record { marking = m; firings = f; given = key 0 } } ≡ startOf s
+  pub started : (m : Marking) (f : Firings) → n ≡ 0 → m ≡ laid (startMarking s) → f ≡ firingsOf [] → record { answer = Started; session = record { marking = m; firings = f; movers = replicate maxBases 0; given = key 0 } } ≡ startOf s
   unfolding startOf freshOf recordOf netOf
   started m f h em ef =
-      (λ i. record { answer = Started; session = record { marking = em i; firings = ef i; given = key 0 } })
+      (λ i. record { answer = Started; session = record { marking = em i; firings = ef i; movers = replicate maxBases 0; given = key 0 } })
       ∙ sym (ap (λ (b : Bool). pick {X = Start} b (record { answer = Started; session = freshOf s }) (record { answer = NotStarted (first (sheetChecks s)); session = zeroRecord })) (sheet-clear s n e h))
 
 -- a session that is started has a sound record

@@ -44,6 +44,7 @@ fn zero_record() -> Record
     Record {
         marking: m,
         firings: no_firings(),
+        movers: [0u16; MAX_BASES],
         given: Key(0),
     }
 }
@@ -67,6 +68,7 @@ pub fn start(sheet: &[u8]) -> Start
         session: Record {
             marking: m,
             firings: no_firings(),
+            movers: [0u16; MAX_BASES],
             given: Key(0),
         },
     }

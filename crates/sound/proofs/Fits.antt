@@ -32,8 +32,9 @@ use Rattle.sheet.proofs.Accepted.{promised}
 use Rattle.marking.specs.Form.{laid}
 use Rattle.marking.proofs.Forms.{marking-laid, laid-in-form}
 use Rattle.firings.specs.Lines.{firingsOf}
+use Rattle.movers.specs.Lamp.{lastMovers}
 use Rattle.firings.proofs.Laid.{lines-back, lines-used, lines-unused}
-use Rattle.sound.specs.Soundness.{journalIn, formed, soundIn, Passed}
+use Rattle.sound.specs.Soundness.{journalIn, formed, soundIn, Passed, Kept}
 
 -- What a journal has to be to lie in a record whole.
 pub record FitsRecord (n : ℕ) (j : Journal) : Type 0 where
@@ -87,3 +88,7 @@ module _ (s : List ℕ) (accepted : clear (sheetChecks s) ≡ true) (j : Journal
         (record-form (basesOf s) j fits) (ap (sound (netOf s)) held-back ∙ held-sound (netOf s) j H);
     laid-out = (ap (λ (x : Journal). laid (x .marking)) (sym held-back), ap (λ (x : Journal). firingsOf (x .lines)) (sym held-back));
   }
+
+  -- and the table of its lines is the record's
+  pub held-kept : Kept s (laid (j .marking)) (firingsOf (j .lines)) (j .given) (lastMovers maxBases (j .lines))
+  held-kept = record { passed = held-passed; movers = ap (λ (x : Journal). lastMovers maxBases (x .lines)) (sym held-back) }

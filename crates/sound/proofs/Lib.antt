@@ -5,4 +5,5 @@ pub mod Tests
 pub mod Given
 pub mod Refusing
 pub mod Holds
+pub mod Movers
 pub mod Fits

@@ -1,11 +1,12 @@
--- Soundness of what a record holds: a marking m, live firings f and the highest key given k (01, commands, record, tally; 02, T-03).
+-- Soundness of what a record holds (01, the record; 02, T-03, T-06): marking m, live firings f, highest key given k, last movers t.
 -- Definitions only. n is the number of bases.
 use mathlib.Core.Path.{_≡_}
 use mathlib.Core.Bool.{Bool, true, not, _&&_}
 use mathlib.Core.List.{List, _∷_, _++_}
 use Prim.Native.Nat.{ℕ}
-use lib.Dec.{leb}
-use Rattle.net.specs.Limits.{maxLive}
+use lib.Dec.{eqb, leb}
+use Rattle.net.specs.Limits.{maxBases, maxLive}
+use Rattle.net.specs.Tests.{sameList}
 use Rattle.net.specs.Checks.{Check, check, clear}
 use Rattle.net.specs.Journal.{Journal}
 use Rattle.net.specs.History.{linesInForm, replays, sound}
@@ -18,6 +19,7 @@ use Rattle.marking.specs.declared.Marking.{Marking}
 use Rattle.firings.specs.Lines.{linesIn, firingsOf}
 use Rattle.firings.specs.Form.{firingsInForm}
 use Rattle.firings.specs.declared.Firings.{Firings}
+use Rattle.movers.specs.Lamp.{lastMovers}
 
 -- the journal that they hold, with the highest key given
 abbrev pub journalIn : ℕ → Marking → Firings → Key → Journal
@@ -39,12 +41,25 @@ soundIn s m f k = formed (basesOf s) m f && sound (netOf s) (journalIn (basesOf 
 unfoldable pub runsIn : List ℕ → Marking → Firings → Bool
 runsIn s m f = formed (basesOf s) m f && (linesInForm (linesIn (basesOf s) f) && replays (netOf s) (netOf s .start) (linesIn (basesOf s) f) (markingOf (basesOf s) m))
 
--- What every call on a record checks before its own: 1 to 9, then 10.
-abbrev pub checksIn : List ℕ → Marking → Firings → Key → List Check → List Check
-checksIn s m f k own = sheetChecks s ++ (check 10 (not (soundIn s m f k)) ∷ own)
+-- The table is that of the lines: for each base that a record has room for, the key of the last that moved it (02, T-06).
+abbrev pub moversFit : ℕ → Firings → List ℕ → Bool
+moversFit n f t = sameList eqb t (lastMovers maxBases (linesIn n f))
 
--- None of them holds.
+-- Sound for the sheet s, the table too.
+abbrev pub keptIn : List ℕ → Marking → Firings → Key → List ℕ → Bool
+keptIn s m f k t = soundIn s m f k && moversFit (basesOf s) f t
+
+-- What every call on a record checks before its own: 1 to 9, then 10.
+abbrev pub checksIn : List ℕ → Marking → Firings → Key → List ℕ → List Check → List Check
+checksIn s m f k t own = sheetChecks s ++ (check 10 (not (keptIn s m f k t)) ∷ own)
+
+-- None of them holds, the table left aside.
 pub record Passed (s : List ℕ) (m : Marking) (f : Firings) (k : Key) : Type 0 where
   pub accepted : clear (sheetChecks s) ≡ true
   pub sound : soundIn s m f k ≡ true
   pub laid-out : LaidOut (basesOf s) m f
+
+-- None of them holds.
+pub record Kept (s : List ℕ) (m : Marking) (f : Firings) (k : Key) (t : List ℕ) : Type 0 where
+  pub passed : Passed s m f k
+  pub movers : t ≡ lastMovers maxBases (linesIn (basesOf s) f)

@@ -1,6 +1,6 @@
 // Whether what a record holds is sound for a sheet (document 01, commands, record, tally; refusal 10): it has the form,
 // its keys ascend, and its firings, run forward alone from the start, are accepted and end in its marking; the highest key given is
-// no lower than any of them (document 02, T-03).
+// no lower than any of them (document 02, T-03), and the table of last movers is theirs (T-06).
 ghost use mathlib.Core.Path.{_≡_};
 ghost use mathlib.Core.Bool.{true, _&&_};
 ghost use mathlib.Core.List.{[]};
@@ -20,7 +20,7 @@ ghost use Rattle.marking.specs.Form.{markingOf, laid};
 ghost use Rattle.marking.specs.Held.{holding};
 ghost use Rattle.firings.specs.Lines.{lying, asLine, linesIn};
 ghost use Rattle.steps.specs.Placed.{Placed};
-ghost use Rattle.sound.specs.Soundness.{runsIn, LaidOut, checksIn, Passed};
+ghost use Rattle.sound.specs.Soundness.{runsIn, LaidOut, checksIn, Kept};
 use firings::Firing;
 use firings::firing_at;
 use firings::firings_in_form;
@@ -31,6 +31,7 @@ use fresh_marking::start_marking;
 use labels::label_in;
 use marking_form::in_form;
 use marking_form::same_marking;
+use movers::table::fits;
 use net::Base;
 use net::Key;
 use net::MAX_BASES;
@@ -230,14 +231,15 @@ pub fn record_refusal<'a>(
     count: usize,
     lo: &'a [Base; MAX_BONDS],
     hi: &'a [Base; MAX_BONDS],
+    movers: &'a [u16; MAX_BASES],
     given: Key,
 ) -> u8
     ensures { λ r. ⌜
         r ≡ first (checksIn (now (sheet .entry)) (holding (now (places .entry)) count (now (lo .entry)) (now (hi .entry)))
-        (lying live (now (transitions .entry)) (now (keys .entry)) (now (moved .entry))) given []) ⌝ }
+        (lying live (now (transitions .entry)) (now (keys .entry)) (now (moved .entry))) given (now (movers .entry)) []) ⌝ }
     ensures { λ r. ⌜
-        (r ≡ 0 → Passed (now (sheet .entry)) (holding (now (places .entry)) count (now (lo .entry)) (now (hi .entry)))
-        (lying live (now (transitions .entry)) (now (keys .entry)) (now (moved .entry))) given) ⌝ }
+        (r ≡ 0 → Kept (now (sheet .entry)) (holding (now (places .entry)) count (now (lo .entry)) (now (hi .entry)))
+        (lying live (now (transitions .entry)) (now (keys .entry)) (now (moved .entry))) given (now (movers .entry))) ⌝ }
 {
     let checked = check_sheet(sheet);
     let refusal = sheet_number(checked);
@@ -248,5 +250,12 @@ pub fn record_refusal<'a>(
         return 10;
     }
     let last = last_key(keys, live);
-    if given.0 < last.0 { 10 } else { 0 }
+    if given.0 < last.0 {
+        return 10;
+    }
+    if fits(movers, keys, moved, live) {
+        0
+    } else {
+        10
+    }
 }

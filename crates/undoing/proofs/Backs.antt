@@ -2,7 +2,7 @@
 -- Assumes that the record passes 1 to 10.
 use mathlib.Core.Path.{_≡_, sym, _∙_, ap, subst}
 use mathlib.Core.Logic.{inl, inr}
-use mathlib.Core.Bool.{true, false}
+use mathlib.Core.Bool.{true}
 use mathlib.Core.List.{List, [], _∷_, _++_}
 use Prim.Native.Nat.{ℕ, _+_, _<_, _≤_}
 use native.Mathlib.Omega.{arith}
@@ -15,7 +15,7 @@ use Rattle.net.specs.Net.{Net, arcsOf}
 use Rattle.net.specs.Firing.{undo, Fires}
 use Rattle.net.specs.Checks.{clear}
 use Rattle.net.specs.Journal as J
-use Rattle.net.specs.Journal.{LiveLine, Journal, transition, builtOn, without, undoChecks, undoReply, noLine}
+use Rattle.net.specs.Journal.{LiveLine, Journal, transition, without, undoChecks, undoReply, noLine}
 use Rattle.net.specs.declared.Key.{Key}
 use Rattle.net.proofs.Tables.{getD-table}
 use Rattle.net.proofs.Keys.{Up, without-split}
@@ -26,16 +26,14 @@ use Rattle.words.specs.Sets.{setOf}
 use Rattle.marking.specs.Form.{markingOf, laid}
 use Rattle.marking.specs.declared.Marking.{Marking}
 use Rattle.firings.specs.Lines.{firingAt, asLine, firingsOf, closedUp}
-use Rattle.firings.specs.Search.{builtOnIn}
 use Rattle.firings.specs.declared.Firing.{Firing}
 use Rattle.firings.specs.declared.Firings.{Firings}
 use Rattle.firings.proofs.Laid.{mem-at}
-use Rattle.firings.proofs.Built.{built-lines}
 use Rattle.firings.proofs.Changes.{without-line}
 use Rattle.steps.proofs.Arcs.{count-of}
 use Rattle.sound.specs.Soundness.{journalIn, Passed}
 use Rattle.sound.proofs.Holds.{rule, few, held, live-is, firings-are}
-use Rattle.sound.proofs.Fits.{run-flags, held-back, held-passed}
+use Rattle.sound.proofs.Fits.{held-back, held-passed}
 use Rattle.undoing.specs.Back.{lineAt, UndoneAt}
 use Rattle.undoing.proofs.Places.{Found, line-found}
 
@@ -95,19 +93,6 @@ module _ (s : List ℕ) (m : Marking) (f : Firings) (g : Key) (P : Passed s m f 
           let left : without k ls ≡ xs ++ ys = ap (without k) (F .split) ∙ without-split k l xs ys (F .key) up in
           let room : length (xs ++ l ∷ ys) ≤ maxLive = (let a = held s m f g P .few in let c = ap length (F .split) in omega arith) in
           (λ x. closedUp (sym (F .place) x) (firings-split x)) ∙ without-line l xs ys room ∙ ap firingsOf (sym left)
-
-      -- what was built on it, by the arrays
-      pub built-is : builtOnIn (f .live) (f .moved) i ≡ builtOn ls l
-      unfolding netOf
-      built-is =
-          let flags = run-flags (netOf s) ls (netOf s .start) (j .marking) (held s m f g P .run) in
-          (λ x. builtOnIn (firings-split x .live) (firings-split x .moved) (sym (F .place) x))
-          ∙ built-lines (basesOf s) l xs ys (few s m f g P) (λ x n. flags x (subst (λ (y : List LiveLine). Mem x y) (sym (F .split)) n)) up
-          ∙ ap (λ (y : List LiveLine). builtOn y l) (sym (F .split))
-
-      -- neither 19 nor 20 holds where no later firing moved a base that it moved
-      pub undo-clear : builtOnIn (f .live) (f .moved) i ≡ false → clear (undoChecks j k) ≡ true
-      undo-clear e = let q : builtOn ls l ≡ false = sym built-is ∙ e in rw (F .live, q)
 
       -- ---- after it
 

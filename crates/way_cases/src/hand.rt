@@ -12,6 +12,7 @@ use crate::judge::commanded;
 use case_tools::bytes::byte;
 use case_tools::bytes::put;
 use case_tools::bytes::put_all;
+use case_tools::movers::last_movers;
 use generated::rows::find;
 use generated::rows::part;
 use net::Key;
@@ -19,13 +20,15 @@ use oracle::sets::get;
 use session::Record;
 use session_start::start;
 
-// A serial changed, and the highest given with it, so that none is above that.
+// A serial changed, the highest given with it, so that none is above that, and the table of last movers, which is that of the firings.
 fn altered(r: Record, i: usize, key: u16) -> Record {
     let mut f = r.firings;
     f.keys[i % 256] = key;
     let last = Key(65535);
+    let movers = last_movers(f.live, &f.keys, &f.moved);
     let mut next = r;
     next.firings = f;
+    next.movers = movers;
     next.given = last;
     next
 }

@@ -13,7 +13,7 @@ use Rattle.net.proofs.Journal.{Held, played}
 use Rattle.format.specs.NetOf.{netOf}
 use Rattle.sheet.specs.Checks.{sheetChecks}
 use Rattle.sheet.proofs.Accepted.{promised}
-use Rattle.sound.proofs.Refusing.{refused-first, of-sheet}
+use Rattle.sound.proofs.Refusing.{refused-first, of-sheet, kept-is}
 use Rattle.tally.specs.declared.Tally.{Tally}
 use Rattle.session.specs.Records.{heldIn, recordOf, Sound}
 use Rattle.session.specs.Commands.{recordChecks, commandChecks, freshOf}
@@ -46,13 +46,13 @@ module _ (s : List ℕ) (r : Record) (c : List ℕ) where
 
   pub why-sheet : (n : ℕ) → n ≡ first (recordChecks s r []) → (n ≡ 0 → ⊥) → (n ≡ 10 → ⊥) → Reason.Sheet ≡ whyOf s r c
   why-sheet n e h t =
-      why-by n (refused-first s (r .marking) (r .firings) (r .given) n e h (checks (netOf s) (heldIn s r) c)) Reason.Sheet
-      (sheet-reason (netOf s) (heldIn s r) c n h (sheet-low s n (of-sheet s (r .marking) (r .firings) (r .given) n e h t) h))
+      why-by n (refused-first s (r .marking) (r .firings) (r .given) (r .movers) n e h (checks (netOf s) (heldIn s r) c)) Reason.Sheet
+      (sheet-reason (netOf s) (heldIn s r) c n h (sheet-low s n (of-sheet s (r .marking) (r .firings) (r .given) (r .movers) n e h t) h))
 
   pub why-record : (n : ℕ) → n ≡ first (recordChecks s r []) → n ≡ 10 → Reason.Record ≡ whyOf s r c
   why-record n e t =
       let q : 10 ≡ first (recordChecks s r []) = sym t ∙ e in
-      why-by 10 (refused-first s (r .marking) (r .firings) (r .given) 10 q (λ z. omega arith) (checks (netOf s) (heldIn s r) c)) Reason.Record (record-reason (netOf s) (heldIn s r) c)
+      why-by 10 (refused-first s (r .marking) (r .firings) (r .given) (r .movers) 10 q (λ z. omega arith) (checks (netOf s) (heldIn s r) c)) Reason.Record (record-reason (netOf s) (heldIn s r) c)
 
 -- ---- the record of a journal
 
@@ -60,7 +60,7 @@ module _ (s : List ℕ) (accepted : clear (sheetChecks s) ≡ true) where
   -- by the journal alone
   pub why-journal : (j : Journal) → Held (netOf s) j → (c : List ℕ) → whyOf s (recordOf j) c ≡ reasonFor (netOf s) j c (first (checks (netOf s) j c))
   why-journal j H c =
-      sym (why-by s (recordOf j) c _ (sym (first-own s (recordOf j) c accepted (held-sound s accepted j H .sound))) _ refl)
+      sym (why-by s (recordOf j) c _ (sym (first-own s (recordOf j) c accepted (kept-is s (recordOf j .marking) (recordOf j .firings) (recordOf j .given) (recordOf j .movers) (held-sound s accepted j H)))) _ refl)
       ∙ ap (λ (h : Journal). reasonFor (netOf s) h c (first (checks (netOf s) h c))) (held-back s accepted j H)
 
   -- after commands on a fresh record

@@ -25,6 +25,7 @@ use Rattle.session.specs.Records.{heldIn, soundFor}
 use Rattle.session.specs.Commands.{commandChecks}
 use Rattle.commands.specs.Answers.{answerNumber}
 use Rattle.session.specs.declared.Record.{Record}
+use Rattle.sound.specs.Soundness.{soundIn}
 use Rattle.sound.proofs.Refusing.{sheet-positive}
 use Rattle.session.proofs.Answers.{answer-number}
 use Rattle.undoing.proofs.Places.{place-found}
@@ -142,7 +143,7 @@ module _ (s : List ℕ) (r : Record) (c : List ℕ) where
   is-later : RefusedBy s r c 20 → (k : Key) × (p : ℕ) × (whyOf s r c ≡ Reason.Later k p) × CameAfter ls mine k p
   unfolding reasonFor
   is-later R =
-      let C = came s r (accepted s r c 20 (omega arith) R) (sound s r c 20 (omega arith) R) c (answered s r c 20 (omega arith) R) in
+      let C = came s r (accepted s r c 20 (omega arith) R) (and-l (soundIn s (r .marking) (r .firings) (r .given)) _ (sound s r c 20 (omega arith) R)) c (answered s r c 20 (omega arith) R) in
       let l : LiveLine = getD ls (laterPlace ls mine) noLine in
       let F = place-found mine ls (let h = C .there in omega arith) in (
         l .key,

@@ -62,12 +62,12 @@ module _ (s : List ℕ) (r : Record) (c : List ℕ) (S : Sound s r) where
   of-bases : (e : Entry) → Mem e (t .entries) → e .base < basesOf s
   unfolding netOf
   of-bases e h = test (ltb (transitionNamed c .0) (transitionsOf s))
-      (λ k. fits (netOf s) (rule s (r .marking) (r .firings) (r .given) S) (transitionNamed c) (rw (count-of s) (ltb-true (transitionNamed c .0) (transitionsOf s) k)) .bases e h)
+      (λ k. fits (netOf s) (rule s (r .marking) (r .firings) (r .given) (S .passed)) (transitionNamed c) (rw (count-of s) (ltb-true (transitionNamed c .0) (transitionsOf s) k)) .bases e h)
       (λ k. absurd (subst (λ (b : List ℕ). Mem e (arcsIn b .entries)) (no-bytes s (transitionNamed c) k) (subst (λ (a : Arcs). Mem e (a .entries)) (arcs-of s (transitionNamed c)) h)))
 
   -- the bonds are in order, and fit
   pub bonds-ready : (r .marking .count ≤ maxBonds) × Ascending sameBond lessBond (bondsOf (r .marking))
-  bonds-ready = (placed-room s (r .marking) (placed s (r .marking) (r .firings) (r .given) S), placed s (r .marking) (r .firings) (r .given) S .good .order)
+  bonds-ready = (placed-room s (r .marking) (placed s (r .marking) (r .firings) (r .given) (S .passed)), placed s (r .marking) (r .firings) (r .given) (S .passed) .good .order)
 
   -- b is what the reader gave: the step's bytes
   module _ (b : List ℕ) (eb : b ≡ transitionBytes s (transitionNamed c)) where
@@ -77,7 +77,7 @@ module _ (s : List ℕ) (r : Record) (c : List ℕ) (S : Sound s r) where
     pub entries-low : (i : ℕ) → i < entryCount b → nthEntry b i .base < maxBases
     entries-low i h =
         let u = of-bases (nthEntry b i) (subst (λ (a : Arcs). Mem (nthEntry b i) (a .entries)) arcs (mem-table (entryCount b) (nthEntry b) i h)) in
-        let v = few s (r .marking) (r .firings) (r .given) S in
+        let v = few s (r .marking) (r .firings) (r .given) (S .passed) in
         omega arith
 
     module _ (T : Turned s r c 13) (i : ℕ) (ei : i ≡ firstAt (awayFrom (r .marking .places)) (arcsIn b .entries)) (e : Entry) (ee : e ≡ nthEntry b i) where
@@ -95,7 +95,7 @@ module _ (s : List ℕ) (r : Record) (c : List ℕ) (S : Sound s r) where
       near = of-bases (awayEntry t m) (mem-at (t .entries) noEntry k low)
 
       pub away-low : e .base < maxBases
-      away-low = let u = near in let v = few s (r .marking) (r .firings) (r .given) S in let w = ap (λ (x : Entry). x .base) entry-is in omega arith
+      away-low = let u = near in let v = few s (r .marking) (r .firings) (r .given) (S .passed) in let w = ap (λ (x : Entry). x .base) entry-is in omega arith
 
       pub away-is : Reason.Away e (getD (r .marking .places) (e .base) 0) ≡ awayBy t m
       away-is = (λ z. Reason.Away (entry-is z) (getD (r .marking .places) (entry-is z .base) 0)) ∙ ap (Reason.Away (awayEntry t m)) (sym (getD-take (basesOf s) (r .marking .places) (awayEntry t m .base) 0 near))
@@ -117,7 +117,7 @@ module _ (s : List ℕ) (r : Record) (c : List ℕ) (S : Sound s r) where
       pub torn-low : e .base < maxBases
       torn-low =
           let u = of-bases (tornEntry t m) (mem-at (t .entries) noEntry (firstAt (hasPartner t m) (t .entries)) (torn-holds (netOf s) (heldIn s r) c (T .answer) .0 .on)) in
-          let v = few s (r .marking) (r .firings) (r .given) S in
+          let v = few s (r .marking) (r .firings) (r .given) (S .passed) in
           let w = ap (λ (x : Entry). x .base) torn-is in
           omega arith
 

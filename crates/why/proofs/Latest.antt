@@ -25,9 +25,10 @@ use Rattle.firings.specs.Search.{keysIn, indexOf}
 use Rattle.firings.specs.declared.Firing.{Firing}
 use Rattle.firings.specs.declared.Firings.{Firings}
 use Rattle.firings.proofs.Search.{keys-of-lines}
+use Rattle.sound.specs.Soundness.{soundIn}
 use Rattle.sound.proofs.Holds.{sound-journal, firings-are}
 use Rattle.sound.proofs.Fits.{run-flags}
-use Rattle.session.specs.Records.{heldIn, soundFor, Sound}
+use Rattle.session.specs.Records.{heldIn, Sound}
 use Rattle.session.specs.declared.Record.{Record}
 use Rattle.reasons.specs.Reasons.{inBoth, laterAt, commonAt}
 use Rattle.net.proofs.Firsts.{first-most}
@@ -50,7 +51,7 @@ part-low a b =
     let e = length-table maxBases (λ p. p) in
     omega arith
 
-module _ (s : List ℕ) (r : Record) (a : clear (sheetChecks s) ≡ true) (h : soundFor s r ≡ true) where
+module _ (s : List ℕ) (r : Record) (a : clear (sheetChecks s) ≡ true) (h : soundIn s (r .marking) (r .firings) (r .given) ≡ true) where
   pub journal-held : Held (netOf s) (heldIn s r)
   journal-held = sound-journal s (r .marking) (r .firings) (r .given) h
 
@@ -72,7 +73,7 @@ module _ (s : List ℕ) (r : Record) (c : List ℕ) (S : Sound s r) where
   f = r .firings
 
   laid-out : f ≡ firingsOf ls
-  laid-out = firings-are s (r .marking) (r .firings) (r .given) S
+  laid-out = firings-are s (r .marking) (r .firings) (r .given) (S .passed)
 
   module _ (answer : act (netOf s) (heldIn s r) c .answer ≡ refused 20) (k : Key) (ek : k ≡ named) (i : ℕ) (ei : i ≡ indexOf k (keysIn (f .live) (f .keys))) where
     place-is : i ≡ indexOf named (lineKeys ls)
@@ -82,14 +83,14 @@ module _ (s : List ℕ) (r : Record) (c : List ℕ) (S : Sound s r) where
     size = length-table (f .live) _
 
     pub live-here : i < f .live
-    live-here = let h = came s r (S .accepted) (S .sound) c answer .there in let e = place-is in let z = size in omega arith
+    live-here = let h = came s r (S .passed .accepted) (S .passed .sound) c answer .there in let e = place-is in let z = size in omega arith
 
     module _ (at : ℕ) (ea : at ≡ laterAt (f .live) (f .moved) i) where
       at-is : at ≡ laterPlace ls named
       at-is = ea ∙ (λ z. laterAt (laid-out z .live) (laid-out z .moved) (place-is z))
 
       pub later-here : at < f .live
-      later-here = let h = came s r (S .accepted) (S .sound) c answer .there in let e = at-is in let z = size in omega arith
+      later-here = let h = came s r (S .passed .accepted) (S .passed .sound) c answer .there in let e = at-is in let z = size in omega arith
 
       module _ (mine other : Firing) (em : mine ≡ firingAt (f .transitions) (f .keys) (f .moved) i) (eo : other ≡ firingAt (f .transitions) (f .keys) (f .moved) at) (p : ℕ) (ep : p ≡ commonAt (mine .moved) (other .moved)) where
         part-is : p ≡ laterPart ls named

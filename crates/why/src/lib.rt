@@ -231,6 +231,7 @@ pub fn why(r: Record, sheet: &[u8], bytes: &[u8]) -> Reason
 {
     let m = r.marking;
     let f = r.firings;
+    let movers = r.movers;
     let refusal = record_refusal(
         sheet,
         f.live,
@@ -241,6 +242,7 @@ pub fn why(r: Record, sheet: &[u8], bytes: &[u8]) -> Reason
         m.count,
         &m.lo,
         &m.hi,
+        &movers,
         r.given,
     );
     if refusal == 10 {

@@ -22,6 +22,18 @@ either [] n = []
 either (a ∷ m) [] = []
 either (a ∷ m) (b ∷ n) = (a || b) ∷ either m n
 
+-- what is in both sets
+abbrev pub meet : List Bool → List Bool → List Bool
+meet [] n = []
+meet (a ∷ m) [] = []
+meet (a ∷ m) (b ∷ n) = (a && b) ∷ meet m n
+
+-- what is in the first set and not in the other
+abbrev pub minus : List Bool → List Bool → List Bool
+minus [] n = []
+minus (a ∷ m) [] = a ∷ m
+minus (a ∷ m) (b ∷ n) = (a && not b) ∷ minus m n
+
 -- every base of one set is in the other
 abbrev pub inside : List Bool → List Bool → Bool
 inside [] n = true

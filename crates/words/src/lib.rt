@@ -6,7 +6,7 @@ ghost use lib.ListN.{getD, set};
 ghost use mathlib.Core.Bool.{true, false};
 ghost use Rattle.net.specs.Limits.{maxBases};
 ghost use Rattle.net.specs.Journal.{common};
-ghost use Rattle.words.specs.Sets.{setOf, sizeOf, either, inside};
+ghost use Rattle.words.specs.Sets.{setOf, sizeOf, either, meet, minus, inside};
 
 // Whether two sets have a common base.
 pub fn shares(a: u64, b: u64) -> bool
@@ -46,11 +46,42 @@ pub fn with_base(w: u64, p: u8) -> u64
     w | (1 << p)
 }
 
+// The set without p. The callers have p from `lowest_base`.
+pub fn without_base(w: u64, p: u8) -> u64
+    requires { ⌜ p < maxBases ⌝ }
+    ensures { λ r. ⌜ setOf maxBases r ≡ set (setOf maxBases w) p false ⌝ }
+    ensures { λ r. ⌜ (getD (setOf maxBases w) p false ≡ true → r < w) ⌝ }
+{
+    w ^ (w & (1 << p))
+}
+
+// The lowest base of a set that is not empty. The callers have seen that it is not.
+pub fn lowest_base(w: u64) -> u8
+    requires { ⌜ (w ≡ 0 → ⊥) ⌝ }
+    ensures { λ r. ⌜ (r < maxBases) × (getD (setOf maxBases w) r false ≡ true) ⌝ }
+{
+    u64::trailing_zeros(w) as u8
+}
+
 // What is in one set or the other.
 pub fn union(a: u64, b: u64) -> u64
     ensures { λ r. ⌜ setOf maxBases r ≡ either (setOf maxBases a) (setOf maxBases b) ⌝ }
 {
     a | b
+}
+
+// What is in both sets.
+pub fn common_bases(a: u64, b: u64) -> u64
+    ensures { λ r. ⌜ setOf maxBases r ≡ meet (setOf maxBases a) (setOf maxBases b) ⌝ }
+{
+    a & b
+}
+
+// What is in the first set and not in the other.
+pub fn other_bases(a: u64, b: u64) -> u64
+    ensures { λ r. ⌜ setOf maxBases r ≡ minus (setOf maxBases a) (setOf maxBases b) ⌝ }
+{
+    a ^ (a & b)
 }
 
 // How many bases are in the set.

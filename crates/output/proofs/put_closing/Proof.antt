@@ -18,9 +18,11 @@ slice-aggregate-put-bonds c = search needs
 slice-aggregate-put-bonds-2 : tie.Need-slice-aggregate-put-bonds-2
 slice-aggregate-put-bonds-2 c = search needs
 
+-- with what is known of the record's arrays in hand
 put-bonds-requires : tie.Need-put-bonds-requires
 put-bonds-requires c κs =
     let m = c .before .before .before .before .before .before .before .before .before .before .before .before .before .args .r .marking in
+    let arrays = c .before .before .before .before .before .before .before .before .before .before .before .before .before .good .1 .1 .1 .0 in
     let lo : length (m .lo) ≡ maxBonds = search needs in
     let hi : length (m .hi) ≡ maxBonds = search needs in
     let few = c .before .before .before .before .before .before .before .before .before .before .before .before .before .pre .2 in

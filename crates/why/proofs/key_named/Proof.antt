@@ -23,12 +23,12 @@ cast-n c = search needs
 last-key-requires : tie.Need-last-key-requires
 last-key-requires c κs =
     let s : tie.Start = c .before .before .before .before .before .before .before .before in
-    live-few (s .args .sheet .now) (s .args .r .marking) (s .args .r .firings) (s .args .r .given) (s .pre)
+    live-few (s .args .sheet .now) (s .args .r .marking) (s .args .r .firings) (s .args .r .given) (s .pre .passed)
 
 returns : tie.Need-returns
 returns c =
     let s : tie.Start = c .before .before .before .before .before .before .before .before .before in
-    c .last-key .ensures ∙ last-given (basesOf (s .args .sheet .now)) (s .args .r .firings) (held (s .args .sheet .now) (s .args .r .marking) (s .args .r .firings) (s .args .r .given) (s .pre) .up)
+    c .last-key .ensures ∙ last-given (basesOf (s .args .sheet .now)) (s .args .r .firings) (held (s .args .sheet .now) (s .args .r .marking) (s .args .r .firings) (s .args .r .given) (s .pre .passed) .up)
     ∙ kind-last (s .args .bytes .now) (c .before .before .before .before .before .byte-at .result) (c .before .before .before .before .before .byte-at .ensures) (highestLive (heldIn (s .args .sheet .now) (s .args .r) .lines)) (key (numberOf (s .args .bytes .now))) (c .before .before .before .if1 .taken)
 
 returns-2 : tie.Need-returns-2

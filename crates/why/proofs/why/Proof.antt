@@ -2,14 +2,15 @@
 -- Assumes nothing but the laws of proofs/.
 use borrow.Author.Needs.{needs}
 use mathlib.Core.Path.{_∙_}
-use Rattle.sound.specs.Soundness.{Passed}
+use Rattle.sound.proofs.Refusing.{kept-is}
+use Rattle.session.specs.Records.{Sound}
 use Rattle.why.proofs.Answers.{why-by, why-sheet, why-record}
 use Rattle.why.proofs.Numbers.{first-own}
 use Rattle.why.proofs.why.Statement.{statement}
 use Rattle.why.proofs.why.Tie as tie
 
 abbrev start : tie.After-record-refusal → tie.Start
-start d = d .before .before .before .before .before .before .before .before .before .before .before .before .before
+start d = d .before .before .before .before .before .before .before .before .before .before .before .before .before .before .before
 
 record-refusal-requires : tie.Need-record-refusal-requires
 record-refusal-requires c κs = search needs
@@ -35,8 +36,8 @@ reason-by-requires c κs =
     let l : tie.Else2 = c .before in
     let d : tie.After-record-refusal = l .before .before in
     let s : tie.Start = start d in
-    let p : Passed (s .args .sheet .now) (s .args .r .marking) (s .args .r .firings) (s .args .r .given) = d .record-refusal .ensures .1 (l .if2 .left) in
-    (p, c .number-of .ensures ∙ first-own (s .args .sheet .now) (s .args .r) (s .args .bytes .now) (p .accepted) (p .sound))
+    let p : Sound (s .args .sheet .now) (s .args .r) = d .record-refusal .ensures .1 (l .if2 .left) in
+    (p, c .number-of .ensures ∙ first-own (s .args .sheet .now) (s .args .r) (s .args .bytes .now) (p .passed .accepted) (kept-is (s .args .sheet .now) (s .args .r .marking) (s .args .r .firings) (s .args .r .given) (s .args .r .movers) p))
 
 returns-3 : tie.Need-returns-3
 returns-3 c =

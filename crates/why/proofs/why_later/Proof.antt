@@ -17,20 +17,20 @@ key-named-requires c κs = c .before .before .pre .sound
 index-of-requires : tie.Need-index-of-requires
 index-of-requires c κs =
     let s : tie.Start = c .before .before .before .before .before .before in
-    (live-few (s .args .sheet .now) (s .args .r .marking) (s .args .r .firings) (s .args .r .given) (s .pre .sound), keys-rise (s .args .sheet .now) (s .args .r .marking) (s .args .r .firings) (s .args .r .given) (s .pre .sound))
+    (live-few (s .args .sheet .now) (s .args .r .marking) (s .args .r .firings) (s .args .r .given) (s .pre .sound .passed), keys-rise (s .args .sheet .now) (s .args .r .marking) (s .args .r .firings) (s .args .r .given) (s .pre .sound .passed))
 
 first-later-requires : tie.Need-first-later-requires
 first-later-requires c κs =
     let i : tie.After-index-of = c .before .before in
     let s : tie.Start = start i in
-    (live-here (s .args .sheet .now) (s .args .r) (s .args .bytes .now) (s .pre .sound) (s .pre .answer) (i .before .before .before .before .key-named .result) (i .before .before .before .before .key-named .ensures) (i .index-of .result) (i .index-of .ensures), live-few (s .args .sheet .now) (s .args .r .marking) (s .args .r .firings) (s .args .r .given) (s .pre .sound))
+    (live-here (s .args .sheet .now) (s .args .r) (s .args .bytes .now) (s .pre .sound) (s .pre .answer) (i .before .before .before .before .key-named .result) (i .before .before .before .before .key-named .ensures) (i .index-of .result) (i .index-of .ensures), live-few (s .args .sheet .now) (s .args .r .marking) (s .args .r .firings) (s .args .r .given) (s .pre .sound .passed))
 
 firing-at-requires : tie.Need-firing-at-requires
 firing-at-requires c κs =
     let i : tie.After-index-of = c .before .before .before .before .before .before .before in
     let s : tie.Start = start i in
     let h = live-here (s .args .sheet .now) (s .args .r) (s .args .bytes .now) (s .pre .sound) (s .pre .answer) (i .before .before .before .before .key-named .result) (i .before .before .before .before .key-named .ensures) (i .index-of .result) (i .index-of .ensures) in
-    let f = live-few (s .args .sheet .now) (s .args .r .marking) (s .args .r .firings) (s .args .r .given) (s .pre .sound) in
+    let f = live-few (s .args .sheet .now) (s .args .r .marking) (s .args .r .firings) (s .args .r .given) (s .pre .sound .passed) in
     omega arith
 
 firing-at-requires-2 : tie.Need-firing-at-requires-2
@@ -39,7 +39,7 @@ firing-at-requires-2 c κs =
     let s : tie.Start = start i in
     let h = later-here (s .args .sheet .now) (s .args .r) (s .args .bytes .now) (s .pre .sound) (s .pre .answer) (i .before .before .before .before .key-named .result) (i .before .before .before .before .key-named .ensures) (i .index-of .result) (i .index-of .ensures)
     (c .before .before .before .before .before .before .before .before .before .first-later .result) (c .before .before .before .before .before .before .before .before .before .first-later .ensures) in
-    let f = live-few (s .args .sheet .now) (s .args .r .marking) (s .args .r .firings) (s .args .r .given) (s .pre .sound) in
+    let f = live-few (s .args .sheet .now) (s .args .r .marking) (s .args .r .firings) (s .args .r .given) (s .pre .sound .passed) in
     omega arith
 
 first-common-requires : tie.Need-first-common-requires

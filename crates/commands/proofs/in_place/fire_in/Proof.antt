@@ -9,6 +9,7 @@ use Rattle.marking.specs.declared.Marking.{Marking}
 use Rattle.firings.specs.Lines.{lying}
 use Rattle.firings.specs.declared.Firings.{Firings}
 use Rattle.sound.proofs.Holds.{placed}
+use Rattle.commands.proofs.Movers.{movers-full}
 use Rattle.commands.proofs.Fires.{not-enabled, listed, full, spent, done}
 use Rattle.commands.proofs.in_place.fire_in.Statement.{statement}
 use Rattle.commands.proofs.in_place.fire_in.Tie as tie
@@ -26,7 +27,7 @@ firings s = lying (s .args .live) (s .args .transitions .now) (s .args .keys .no
 enable-refusal-requires : tie.Need-enable-refusal-requires
 enable-refusal-requires c κs =
     let s : tie.Start = c .before .before .before .before .before in
-    (placed (s .args .sheet .now) (marking s) (firings s) (s .args .given) (s .pre .0), s .pre .1 .parted)
+    (placed (s .args .sheet .now) (marking s) (firings s) (s .args .given) (s .pre .0 .passed), s .pre .1 .parted)
 
 refused-in-requires : tie.Need-refused-in-requires
 refused-in-requires c κs = search needs
@@ -35,7 +36,7 @@ returns : tie.Need-returns
 returns c =
     let e : tie.After-enable-refusal = c .before .before in
     let s : tie.Start = start e in
-    rw (c .refused-in .ensures) (not-enabled (s .args .sheet .now) (marking s) (firings s) (s .args .given) (s .args .t) (s .pre .0) _ (e .enable-refusal .ensures) (c .before .if1 .taken) _ refl, s .pre .1)
+    rw (c .refused-in .ensures) (not-enabled (s .args .sheet .now) (marking s) (firings s) (s .args .given) (s .args .movers .now) (s .args .t) (s .pre .0) _ (e .enable-refusal .ensures) (c .before .if1 .taken) _ refl, s .pre .1)
 
 refused-in-requires-2 : tie.Need-refused-in-requires-2
 refused-in-requires-2 c κs = search needs
@@ -45,7 +46,7 @@ returns-2 c =
     let o : tie.Else1 = c .before .before in
     let e : tie.After-enable-refusal = o .before in
     let s : tie.Start = start e in
-    rw (c .refused-in2 .ensures) (full (s .args .sheet .now) (marking s) (firings s) (s .args .given) (s .args .t) (s .pre .0) _ (e .enable-refusal .ensures) (o .if1 .left) (c .before .if2 .taken) _ refl, s .pre .1)
+    rw (c .refused-in2 .ensures) (full (s .args .sheet .now) (marking s) (firings s) (s .args .given) (s .args .movers .now) (s .args .t) (s .pre .0) _ (e .enable-refusal .ensures) (o .if1 .left) (c .before .if2 .taken) _ refl, s .pre .1)
 
 refused-in-requires-3 : tie.Need-refused-in-requires-3
 refused-in-requires-3 c κs = search needs
@@ -56,7 +57,7 @@ returns-3 c =
     let o : tie.Else1 = w .before in
     let e : tie.After-enable-refusal = o .before in
     let s : tie.Start = start e in
-    rw (c .refused-in3 .ensures) (spent (s .args .sheet .now) (marking s) (firings s) (s .args .given) (s .args .t) (s .pre .0) _ (e .enable-refusal .ensures) (o .if1 .left) (w .if2 .left) (c .before .if3 .taken) _ refl, s .pre .1)
+    rw (c .refused-in3 .ensures) (spent (s .args .sheet .now) (marking s) (firings s) (s .args .given) (s .args .movers .now) (s .args .t) (s .pre .0) _ (e .enable-refusal .ensures) (o .if1 .left) (w .if2 .left) (c .before .if3 .taken) _ refl, s .pre .1)
 
 -- the transition is on the sheet
 abbrev enabled : tie.Else3 → tie.Else1
@@ -66,15 +67,15 @@ fire-in-requires : tie.Need-fire-in-requires
 fire-in-requires c κs =
     let o : tie.Else1 = enabled (c .before .before .before .before .before) in
     let s : tie.Start = start (o .before) in
-    (placed (s .args .sheet .now) (marking s) (firings s) (s .args .given) (s .pre .0), s .pre .1, listed (s .args .sheet .now) (marking s) (firings s) (s .args .given) (s .args .t) (s .pre .0) _ (o .before .enable-refusal .ensures) (o .if1 .left))
+    (placed (s .args .sheet .now) (marking s) (firings s) (s .args .given) (s .pre .0 .passed), s .pre .1, listed (s .args .sheet .now) (marking s) (firings s) (s .args .given) (s .args .movers .now) (s .args .t) (s .pre .0) _ (o .before .enable-refusal .ensures) (o .if1 .left))
 
 cast-transitions : tie.Need-cast-transitions
 cast-transitions c =
     let d : tie.After-fire-in = c .before in
     let o : tie.Else1 = enabled (d .before .before .before .before .before .before) in
     let s : tie.Start = start (o .before) in
-    let h = listed (s .args .sheet .now) (marking s) (firings s) (s .args .given) (s .args .t) (s .pre .0) _ (o .before .enable-refusal .ensures) (o .if1 .left) in
-    let p = promised (s .args .sheet .now) (s .pre .0 .accepted) .transitions .1 in
+    let h = listed (s .args .sheet .now) (marking s) (firings s) (s .args .given) (s .args .movers .now) (s .args .t) (s .pre .0) _ (o .before .enable-refusal .ensures) (o .if1 .left) in
+    let p = promised (s .args .sheet .now) (s .pre .0 .passed .accepted) .transitions .1 in
     record { fits = omega arith }
 
 element-write-transitions : tie.Need-element-write-transitions
@@ -95,23 +96,31 @@ mul-moved c = search needs
 element-write-moved : tie.Need-element-write-moved
 element-write-moved c = search needs
 
-add-t29 : tie.Need-add-t29
-add-t29 c = search needs
-
 add-t30 : tie.Need-add-t30
 add-t30 c = search needs
 
-add-t37 : tie.Need-add-t37
-add-t37 c = search needs
+mark-requires : tie.Need-mark-requires
+mark-requires c κs =
+    let s : tie.Start = start (enabled (c .before .before .before .before .before .before .before .before .before .before) .before) in
+    movers-full (s .args .sheet .now) (marking s) (firings s) (s .args .given) (s .args .movers .now) (s .pre .0)
+
+add-t30-2 : tie.Need-add-t30-2
+add-t30-2 c = search needs
+
+add-t31 : tie.Need-add-t31
+add-t31 c = search needs
+
+add-t40 : tie.Need-add-t40
+add-t40 c = search needs
 
 returns-4 : tie.Need-returns-4
 returns-4 c =
-    let d : tie.After-fire-in = c .before .before .before .before in
+    let d : tie.After-fire-in = c .before .before .before .before .before .before .before in
     let x : tie.Else3 = d .before .before .before .before .before .before in
     let w : tie.Else2 = x .before .before in
     let o : tie.Else1 = w .before in
     let s : tie.Start = start (o .before) in
-    (done (s .args .sheet .now) (marking s) (firings s) (s .args .given) (s .args .t) (s .pre .0) _ (o .before .enable-refusal .ensures) (o .if1 .left) (w .if2 .left) (x .if3 .left) _ _ (d .fire-in .ensures .0) (d .fire-in .ensures .1 .0) _, d .fire-in .ensures .1 .1)
+    (done (s .args .sheet .now) (marking s) (firings s) (s .args .given) (s .args .movers .now) (s .args .t) (s .pre .0) _ (o .before .enable-refusal .ensures) (o .if1 .left) (w .if2 .left) (x .if3 .left) _ _ (d .fire-in .ensures .0) (d .fire-in .ensures .1 .0) _ (c .before .before .mark .ensures) _, d .fire-in .ensures .1 .1)
 
 pub fire-in-spec : {M : Type 1} → statement M
 fire-in-spec =
@@ -132,7 +141,9 @@ fire-in-spec =
     element-write-keys
     mul-moved
     element-write-moved
-    add-t29
     add-t30
-    add-t37
+    mark-requires
+    add-t30-2
+    add-t31
+    add-t40
     returns-4)

@@ -38,7 +38,7 @@ refused-in-requires c κs = search needs
 returns : tie.Need-returns
 returns c =
     let s : tie.Start = c .before .before .before .before in
-    rw (c .refused-in .ensures) (refused-did (s .args .sheet .now) (marking s) (firings s) (s .args .given) (s .pre .0) _ 21 (cut (netOf (s .args .sheet .now)) (journal s) (s .args .bytes .now) (lt-ltb _ _ (c .before .if1 .taken))) _ refl, s .pre .1)
+    rw (c .refused-in .ensures) (refused-did (s .args .sheet .now) (marking s) (firings s) (s .args .given) (s .args .movers .now) (s .pre .0) _ 21 (cut (netOf (s .args .sheet .now)) (journal s) (s .args .bytes .now) (lt-ltb _ _ (c .before .if1 .taken))) _ refl, s .pre .1)
 
 decode-requires : tie.Need-decode-requires
 decode-requires c κs = search needs
@@ -56,7 +56,7 @@ returns-2 : tie.Need-returns-2
 returns-2 c =
     let d : tie.After-decode = c .before .before .before in
     let s : tie.Start = start (d .before) in
-    rw (c .refused-in2 .ensures) (refused-did (s .args .sheet .now) (marking s) (firings s) (s .args .given) (s .pre .0) _ 11 (unread (netOf (s .args .sheet .now)) (journal s) (s .args .bytes .now) (le-ltb _ _ (d .before .if1 .left)) _ (c .before .enum-told .given .1) (d .decode .ensures)) _ refl, s .pre .1)
+    rw (c .refused-in2 .ensures) (refused-did (s .args .sheet .now) (marking s) (firings s) (s .args .given) (s .args .movers .now) (s .pre .0) _ 11 (unread (netOf (s .args .sheet .now)) (journal s) (s .args .bytes .now) (le-ltb _ _ (d .before .if1 .left)) _ (c .before .enum-told .given .1) (d .decode .ensures)) _ refl, s .pre .1)
 
 enum-known-c : tie.Need-enum-known-c
 enum-known-c c = search needs
@@ -76,37 +76,37 @@ enum-told-2 c = search needs
 last-key-requires : tie.Need-last-key-requires
 last-key-requires c κs =
     let s : tie.Start = c .before .before .before .before .before .before .before .before .before .before in
-    live-few (s .args .sheet .now) (marking s) (firings s) (s .args .given) (s .pre .0)
+    live-few (s .args .sheet .now) (marking s) (firings s) (s .args .given) (s .pre .0 .passed)
 
 undo-in-requires-2 : tie.Need-undo-in-requires-2
 undo-in-requires-2 c κs = search needs
 
 returns-3 : tie.Need-returns-3
 returns-3 c =
-    let x : tie.After-c = c .before .before .before .before .before .before .before .before .before .before in
+    let x : tie.After-c = c .before .before .before .before .before .before .before .before .before .before .before in
     let r : tie.After-read = x .before .before .before in
     let d : tie.After-decode = r .before .before in
     let s : tie.Start = start (d .before) in
-    (did-by _ _ (commanded (netOf (s .args .sheet .now)) (journal s) (s .args .bytes .now) (le-ltb _ _ (d .before .if1 .left)) _ _ _ (r .read .given .1) (d .decode .ensures) (x .c .given .1)) _ _ _ (c .fire-in .ensures .0), c .fire-in .ensures .1)
+    (did-by _ _ (commanded (netOf (s .args .sheet .now)) (journal s) (s .args .bytes .now) (le-ltb _ _ (d .before .if1 .left)) _ _ _ (r .read .given .1) (d .decode .ensures) (x .c .given .1)) _ _ _ _ (c .fire-in .ensures .0), c .fire-in .ensures .1)
 
 returns-4 : tie.Need-returns-4
 returns-4 c =
-    let x : tie.After-c2 = c .before .before .before .before .before .before .before .before .before .before in
+    let x : tie.After-c2 = c .before .before .before .before .before .before .before .before .before .before .before in
     let r : tie.After-read = x .before .before .before in
     let d : tie.After-decode = r .before .before in
     let s : tie.Start = start (d .before) in
-    (did-by _ _ (commanded (netOf (s .args .sheet .now)) (journal s) (s .args .bytes .now) (le-ltb _ _ (d .before .if1 .left)) _ _ _ (r .read .given .1) (d .decode .ensures) (x .c2 .given .1)) _ _ _ (c .undo-in .ensures .0), c .undo-in .ensures .1)
+    (did-by _ _ (commanded (netOf (s .args .sheet .now)) (journal s) (s .args .bytes .now) (le-ltb _ _ (d .before .if1 .left)) _ _ _ (r .read .given .1) (d .decode .ensures) (x .c2 .given .1)) _ _ _ _ (c .undo-in .ensures .0), c .undo-in .ensures .1)
 
 returns-5 : tie.Need-returns-5
 returns-5 c =
-    let k : tie.After-last-key = c .before .before .before .before .before .before .before .before .before in
+    let k : tie.After-last-key = c .before .before .before .before .before .before .before .before .before .before in
     let x : tie.After-enum-told2 = k .before .before in
     let r : tie.After-read = x .before .before .before in
     let d : tie.After-decode = r .before .before in
     let s : tie.Start = start (d .before) in
-    let last = k .last-key .ensures ∙ last-given (basesOf (s .args .sheet .now)) (firings s) (held (s .args .sheet .now) (marking s) (firings s) (s .args .given) (s .pre .0) .up) in
+    let last = k .last-key .ensures ∙ last-given (basesOf (s .args .sheet .now)) (firings s) (held (s .args .sheet .now) (marking s) (firings s) (s .args .given) (s .pre .0 .passed) .up) in
     let same = commanded (netOf (s .args .sheet .now)) (journal s) (s .args .bytes .now) (le-ltb _ _ (d .before .if1 .left)) _ _ _ (r .read .given .1) (d .decode .ensures) (x .enum-told2 .given .1) in
-    (did-by _ _ (same ∙ ap (undoAct (netOf (s .args .sheet .now)) (journal s)) (sym last)) _ _ _ (c .undo-in2 .ensures .0), c .undo-in2 .ensures .1)
+    (did-by _ _ (same ∙ ap (undoAct (netOf (s .args .sheet .now)) (journal s)) (sym last)) _ _ _ _ (c .undo-in2 .ensures .0), c .undo-in2 .ensures .1)
 
 pub perform-in-spec : {M : Type 1} → statement M
 perform-in-spec =

@@ -16,19 +16,19 @@ refused-requires c κs = search needs
 returns : tie.Need-returns
 returns c =
     let d : tie.After-record-refusal = c .before .before in
-    let s : tie.Start = d .before .before .before .before .before .before .before .before .before .before .before .before .before in
+    let s : tie.Start = d .before .before .before .before .before .before .before .before .before .before .before .before .before .before .before in
     c .refused .ensures ∙ refused-by (s .args .sheet .now) (s .args .self) (s .args .bytes .now) _ (d .record-refusal .ensures .0) (c .before .if1 .taken)
 
 perform-requires : tie.Need-perform-requires
 perform-requires c κs =
     let d : tie.After-record-refusal = c .before in
-    let s : tie.Start = d .before .before .before .before .before .before .before .before .before .before .before .before .before in
+    let s : tie.Start = d .before .before .before .before .before .before .before .before .before .before .before .before .before .before .before in
     d .record-refusal .ensures .1 (c .if1 .left)
 
 returns-2 : tie.Need-returns-2
 returns-2 c =
     let d : tie.After-record-refusal = c .before .before in
-    let s : tie.Start = d .before .before .before .before .before .before .before .before .before .before .before .before .before in
+    let s : tie.Start = d .before .before .before .before .before .before .before .before .before .before .before .before .before .before .before in
     c .perform .ensures ∙ performs (s .args .sheet .now) (s .args .self) (d .record-refusal .ensures .1 (c .before .if1 .left)) (s .args .bytes .now)
 
 pub answer-spec : {M : Type 1} → statement M

@@ -11,7 +11,7 @@ abbrev tested : tie.After-block-refusal → tie.After-record-refusal
 tested u = u .before
 
 abbrev start : tie.After-block-refusal → tie.Start
-start u = tested u .before .before .before .before .before .before .before .before .before .before .before .before .before .before .before
+start u = tested u .before .before .before .before .before .before .before .before .before .before .before .before .before .before .before .before .before
 
 record-refusal-requires : tie.Need-record-refusal-requires
 record-refusal-requires c κs = search needs

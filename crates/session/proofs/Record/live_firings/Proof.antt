@@ -15,7 +15,7 @@ list-none-requires c κs = search needs
 returns : tie.Need-returns
 returns c =
     let d : tie.After-record-refusal = c .before .before in
-    let s : tie.Start = d .before .before .before .before .before .before .before .before .before .before .before .before in
+    let s : tie.Start = d .before .before .before .before .before .before .before .before .before .before .before .before .before .before in
     c .list-none .ensures ∙ list-refused (s .args .sheet .now) (s .args .self) _ (d .record-refusal .ensures .0) (c .before .if1 .taken)
 
 list-live-requires : tie.Need-list-live-requires
@@ -24,7 +24,7 @@ list-live-requires c κs = search needs
 returns-2 : tie.Need-returns-2
 returns-2 c =
     let d : tie.After-record-refusal = c .before .before .before .before .before .before in
-    let s : tie.Start = d .before .before .before .before .before .before .before .before .before .before .before .before in
+    let s : tie.Start = d .before .before .before .before .before .before .before .before .before .before .before .before .before .before in
     c .list-live .ensures ∙ list-given (s .args .sheet .now) (s .args .self) (d .record-refusal .ensures .1 (c .before .before .before .before .before .if1 .left))
 
 pub live-firings-spec : {M : Type 1} → statement M

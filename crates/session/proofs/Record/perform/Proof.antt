@@ -15,8 +15,8 @@ slice-aggregate-label-in-2 c = search needs
 
 label-in-requires : tie.Need-label-in-requires
 label-in-requires c κs =
-    let s : tie.Start = c .before .before .before .before .before .before .before .before .before .before .before .before .before .before in
-    let P = placed (s .args .sheet .now) (s .args .self .marking) (s .args .self .firings) (s .args .self .given) (s .pre) in
+    let s : tie.Start = c .before .before .before .before .before .before .before .before .before .before .before .before .before .before .before in
+    let P = placed (s .args .sheet .now) (s .args .self .marking) (s .args .self .firings) (s .args .self .given) (s .pre .passed) in
     let (lo, hi) = placed-fits (s .args .sheet .now) (s .args .self .marking) P in
     ((search needs, lo, hi), placed-ends (s .args .sheet .now) (s .args .self .marking) P)
 
@@ -25,8 +25,8 @@ perform-in-requires c κs = search needs
 
 returns : tie.Need-returns
 returns c =
-    let s : tie.Start = c .before .before .before .before .before .before .before .before .before .before .before .before .before .before .before .before .before .before .before .before .before .before .before .before .before .before in
-    did-performs (s .args .sheet .now) (s .args .self) (s .pre) (s .args .bytes .now) _ _ _ (c .before .before .perform-in .ensures .0)
+    let s : tie.Start = c .before .before .before .before .before .before .before .before .before .before .before .before .before .before .before .before .before .before .before .before .before .before .before .before .before .before .before .before in
+    did-performs (s .args .sheet .now) (s .args .self) (s .pre) (s .args .bytes .now) _ _ _ _ (c .before .before .perform-in .ensures .0)
 
 pub perform-spec : {M : Type 1} → statement M
 perform-spec =

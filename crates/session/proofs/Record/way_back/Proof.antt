@@ -7,7 +7,7 @@ use Rattle.session.proofs.Record.way_back.Statement.{statement}
 use Rattle.session.proofs.Record.way_back.Tie as tie
 
 abbrev start : tie.After-record-refusal → tie.Start
-start d = d .before .before .before .before .before .before .before .before .before .before .before .before .before
+start d = d .before .before .before .before .before .before .before .before .before .before .before .before .before .before .before
 
 record-refusal-requires : tie.Need-record-refusal-requires
 record-refusal-requires c κs = search needs
@@ -23,14 +23,14 @@ returns c =
     (e, way-number (s .args .sheet .now) (s .args .self) (s .args .layout .now) _ e)
 
 way-from-requires : tie.Need-way-from-requires
-way-from-requires c κs = let d : tie.After-record-refusal = c .before in let s : tie.Start = start d in (s .args .self .given, d .record-refusal .ensures .1 (c .if1 .left))
+way-from-requires c κs = let d : tie.After-record-refusal = c .before in let s : tie.Start = start d in (s .args .self .given, d .record-refusal .ensures .1 (c .if1 .left) .passed)
 
 returns-2 : tie.Need-returns-2
 returns-2 c =
     let d : tie.After-record-refusal = c .before .before in
     let s : tie.Start = start d in
     let p = d .record-refusal .ensures .1 (c .before .if1 .left) in
-    let e = c .way-from .ensures (s .args .self .given) p ∙ way-asked (s .args .sheet .now) (s .args .self) (s .args .layout .now) p in
+    let e = c .way-from .ensures (s .args .self .given) (p .passed) ∙ way-asked (s .args .sheet .now) (s .args .self) (s .args .layout .now) p in
     (e, way-number (s .args .sheet .now) (s .args .self) (s .args .layout .now) _ e)
 
 pub way-back-spec : {M : Type 1} → statement M

@@ -21,38 +21,38 @@ use Rattle.session.proofs.run.run.Tie as tie
 
 -- the arrays hold a sound record, the labels are those of its bonds, and all is as after the first i commands
 abbrev Inv-loop : tie.InvT-loop
-Inv-loop sheet commands words₀ values₀ places₀ count₀ lo₀ hi₀ live₀ transitions₀ keys₀ moved₀ l₀ members₀ counts₀ given₀ at₀ i₀ words values places count lo hi live transitions keys moved l members counts given at i =
+Inv-loop sheet commands words₀ values₀ places₀ count₀ lo₀ hi₀ live₀ transitions₀ keys₀ moved₀ movers₀ l₀ members₀ counts₀ given₀ at₀ i₀ words values places count lo hi live transitions keys moved movers l members counts given at i =
     (at ≡ 3 * i) × (i ≤ howMany commands) × (howMany commands ≤ length words₀) × (howMany commands ≤ length values₀) × (length words ≡ length words₀) × (length values ≡ length values₀)
-    × Sound sheet (recordAt places count lo hi live transitions keys moved given) × Labelled l members (bondsIn lo hi count)
-    × Upto sheet commands (recordAt places₀ count₀ lo₀ hi₀ live₀ transitions₀ keys₀ moved₀ given₀) counts₀ words₀ values₀ i (recordAt places count lo hi live transitions keys moved given) counts words values × (length commands < 9223372036854775808)
+    × Sound sheet (recordAt places count lo hi live transitions keys moved movers given) × Labelled l members (bondsIn lo hi count)
+    × Upto sheet commands (recordAt places₀ count₀ lo₀ hi₀ live₀ transitions₀ keys₀ moved₀ movers₀ given₀) counts₀ words₀ values₀ i (recordAt places count lo hi live transitions keys moved movers given) counts words values × (length commands < 9223372036854775808)
 
 abbrev μ-loop : tie.MeasureT-loop
-μ-loop sheet commands words₀ values₀ places₀ count₀ lo₀ hi₀ live₀ transitions₀ keys₀ moved₀ l₀ members₀ counts₀ given₀ at₀ i₀ words values places count lo hi live transitions keys moved l members counts given at i = length commands - at
+μ-loop sheet commands words₀ values₀ places₀ count₀ lo₀ hi₀ live₀ transitions₀ keys₀ moved₀ movers₀ l₀ members₀ counts₀ given₀ at₀ i₀ words values places count lo hi live transitions keys moved movers l members counts given at i = length commands - at
 
 -- the function's start, and the record that the arrays hold at a turn
 abbrev start : tie.At-loop Inv-loop μ-loop → tie.Start Inv-loop μ-loop
-start c = c .before .before .before .before .before .before .before .before .before .before .before .before .before .before .before .before .before .before .before
+start c = c .before .before .before .before .before .before .before .before .before .before .before .before .before .before .before .before .before .before .before .before
 
 abbrev held : tie.At-loop Inv-loop μ-loop → Record
-held c = recordAt (c .loop .places) (c .loop .count) (c .loop .lo) (c .loop .hi) (c .loop .live) (c .loop .transitions) (c .loop .keys) (c .loop .moved) (c .loop .given)
+held c = recordAt (c .loop .places) (c .loop .count) (c .loop .lo) (c .loop .hi) (c .loop .live) (c .loop .transitions) (c .loop .keys) (c .loop .moved) (c .loop .movers) (c .loop .given)
 
 slice-aggregate-label-in : tie.Need-slice-aggregate-label-in Inv-loop μ-loop
-slice-aggregate-label-in c = search needs
+slice-aggregate-label-in c = let arrays = c .before .before .before .before .before .before .before .before .before .before .before .before .before .before .before .before .good .0 in search needs
 
 -- with what is known of the record's arrays in hand
 slice-aggregate-label-in-2 : tie.Need-slice-aggregate-label-in-2 Inv-loop μ-loop
-slice-aggregate-label-in-2 c = let arrays = c .before .before .before .before .before .before .before .before .before .before .before .before .before .before .before .before .good .0 in search needs
+slice-aggregate-label-in-2 c = let arrays = c .before .before .before .before .before .before .before .before .before .before .before .before .before .before .before .before .before .good .0 in search needs
 
 label-in-requires : tie.Need-label-in-requires Inv-loop μ-loop
 label-in-requires c κs =
-    let s : tie.Start Inv-loop μ-loop = c .before .before .before .before .before .before .before .before .before .before .before .before .before .before .before .before in
-    let P = placed (s .args .sheet .now) (s .args .r .marking) (s .args .r .firings) (s .args .r .given) (s .pre .0) in
+    let s : tie.Start Inv-loop μ-loop = c .before .before .before .before .before .before .before .before .before .before .before .before .before .before .before .before .before in
+    let P = placed (s .args .sheet .now) (s .args .r .marking) (s .args .r .firings) (s .args .r .given) (s .pre .0 .passed) in
     let (lo, hi) = placed-fits (s .args .sheet .now) (s .args .r .marking) P in
     ((search needs, lo, hi), placed-ends (s .args .sheet .now) (s .args .r .marking) P)
 
 loop-holds : tie.Need-loop-holds Inv-loop μ-loop
 loop-holds c =
-    let s : tie.Start Inv-loop μ-loop = c .before .before .before .before .before .before .before .before .before .before .before .before .before .before .before .before .before .before in (
+    let s : tie.Start Inv-loop μ-loop = c .before .before .before .before .before .before .before .before .before .before .before .before .before .before .before .before .before .before .before in (
       search needs,
       search needs,
       s .pre .1,
@@ -70,7 +70,7 @@ command-at-requires c κs = search needs
 
 step-in-requires : tie.Need-step-in-requires Inv-loop μ-loop
 step-in-requires c κs =
-    let at : tie.At-loop Inv-loop μ-loop = c .before .before .before .before .before .before .before .before .before .before in
+    let at : tie.At-loop Inv-loop μ-loop = c .before .before .before .before .before .before .before .before .before .before .before in
     (at .loop .inv .6, at .loop .inv .7)
 
 slice-write-words : tie.Need-slice-write-words Inv-loop μ-loop
@@ -78,8 +78,8 @@ slice-write-words c = search needs
 
 mul-values : tie.Need-mul-values Inv-loop μ-loop
 mul-values c =
-    let at : tie.At-loop Inv-loop μ-loop = c .before .before .before .before .before .before .before .before .before .before .before in
-    let below = c .before .before .before .before .before .before .before .before .before .before .loop-test .taken in
+    let at : tie.At-loop Inv-loop μ-loop = c .before .before .before .before .before .before .before .before .before .before .before .before in
+    let below = c .before .before .before .before .before .before .before .before .before .before .before .loop-test .taken in
     let few = at .loop .inv .9 in
     let here = at .loop .inv .0 in
     record { fits = omega arith }
@@ -89,16 +89,16 @@ slice-write-values c = search needs
 
 add-at : tie.Need-add-at Inv-loop μ-loop
 add-at c =
-    let at : tie.At-loop Inv-loop μ-loop = c .before .before .before .before .before .before .before .before .before .before .before .before .before in
-    let below = c .before .before .before .before .before .before .before .before .before .before .before .before .loop-test .taken in
+    let at : tie.At-loop Inv-loop μ-loop = c .before .before .before .before .before .before .before .before .before .before .before .before .before .before in
+    let below = c .before .before .before .before .before .before .before .before .before .before .before .before .before .loop-test .taken in
     let few = at .loop .inv .9 in
     let here = at .loop .inv .0 in
     record { fits = omega arith }
 
 add-i : tie.Need-add-i Inv-loop μ-loop
 add-i c =
-    let at : tie.At-loop Inv-loop μ-loop = c .before .before .before .before .before .before .before .before .before .before .before .before .before in
-    let below = c .before .before .before .before .before .before .before .before .before .before .before .before .loop-test .taken in
+    let at : tie.At-loop Inv-loop μ-loop = c .before .before .before .before .before .before .before .before .before .before .before .before .before .before in
+    let below = c .before .before .before .before .before .before .before .before .before .before .before .before .before .loop-test .taken in
     let few = at .loop .inv .9 in
     let here = at .loop .inv .0 in
     record { fits = omega arith }
@@ -109,7 +109,7 @@ loop-less c = search needs
 loop-again : tie.Need-loop-again Inv-loop μ-loop
 loop-again c =
     let d : tie.After-step-in Inv-loop μ-loop = c .before .before in
-    let q : tie.After-command-at Inv-loop μ-loop = d .before .before .before .before .before .before .before .before .before in
+    let q : tie.After-command-at Inv-loop μ-loop = d .before .before .before .before .before .before .before .before .before .before in
     let at : tie.At-loop Inv-loop μ-loop = q .before .before in
     let s : tie.Start Inv-loop μ-loop = start at in
     let b : List ℕ = s .args .commands .now in

@@ -22,9 +22,9 @@ counted-requires c κs = search needs
 returns : tie.Need-returns
 returns c =
     let p : tie.After-perform-in = c .before .before .before .before .before in
-    let s : tie.Start = p .before .before .before .before .before .before .before .before .before .before .before in
-    let r : Record = recordAt (s .args .places .now) (s .args .count) (s .args .lo .now) (s .args .hi .now) (s .args .live) (s .args .transitions .now) (s .args .keys .now) (s .args .moved .now) (s .args .given) in
-    (stepped (s .args .sheet .now) r (s .pre .0) (s .args .t) (s .args .bytes .now) _ (did-performs (s .args .sheet .now) r (s .pre .0) (s .args .bytes .now) _ _ _ (p .perform-in .ensures .0)) _ (c .before .before .word-of .ensures) (c .before .value-of .ensures .0) (c .counted .ensures), p .perform-in .ensures .1)
+    let s : tie.Start = p .before .before .before .before .before .before .before .before .before .before .before .before in
+    let r : Record = recordAt (s .args .places .now) (s .args .count) (s .args .lo .now) (s .args .hi .now) (s .args .live) (s .args .transitions .now) (s .args .keys .now) (s .args .moved .now) (s .args .movers .now) (s .args .given) in
+    (stepped (s .args .sheet .now) r (s .pre .0) (s .args .t) (s .args .bytes .now) _ (did-performs (s .args .sheet .now) r (s .pre .0) (s .args .bytes .now) _ _ _ _ (p .perform-in .ensures .0)) _ (c .before .before .word-of .ensures) (c .before .value-of .ensures .0) (c .counted .ensures), p .perform-in .ensures .1)
 
 pub step-in-spec : {M : Type 1} → statement M
 step-in-spec =

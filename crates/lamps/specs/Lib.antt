@@ -1,0 +1,2 @@
+-- The lamps of a record's live firings.
+pub mod Lamps

@@ -1,0 +1,95 @@
+// The lamps of a record's live firings (document 02, T-06), from the arrays that hold them and the table of last movers.
+// The session's calls check the sheet and the record first.
+ghost use mathlib.Core.Path.{_≡_};
+ghost use mathlib.Core.Bool.{true};
+ghost use Prim.Native.Nat.{_<_, _≤_};
+ghost use Rattle.net.specs.Limits.{maxLive};
+ghost use Rattle.firings.specs.Search.{keysIn};
+ghost use Rattle.firings.specs.Form.{climbs};
+ghost use Rattle.lamps.specs.Lamps.{notShown, litAt, shownIn, litKey};
+use firings::index_of;
+use movers::table::on_top;
+use net::Key;
+use net::MAX_BASES;
+use net::MAX_LIVE;
+
+// The answer to a call for the lamps; Refused has the number of document 01's list.
+pub enum LampsAnswer {
+    Shown,
+    Refused(u8),
+}
+
+// The answer, how many firings are live, and a flag for each of them in its order: whether it can come off. Unused flags are no.
+pub struct Lamps {
+    pub answer: LampsAnswer,
+    pub count: usize,
+    pub lit: [bool; MAX_LIVE],
+}
+
+// Whether the live firing at i can come off; no after the live ones. The callers ask below the limit.
+fn lit_at<'a>(
+    movers: &'a [u16; MAX_BASES],
+    keys: &'a [u16; MAX_LIVE],
+    moved: &'a [u64; MAX_LIVE],
+    live: usize,
+    i: usize,
+) -> bool
+    requires { ⌜ i < maxLive ⌝ }
+    ensures { λ r. ⌜ r ≡ litAt (now (movers .entry)) live (now (keys .entry)) (now (moved .entry)) i ⌝ }
+{
+    if i < live {
+        return on_top(movers, moved[i], Key(keys[i]));
+    }
+    false
+}
+
+// The lamp of a key: no where it is not live. The keys of a sound record ascend.
+pub fn is_lit<'a>(
+    movers: &'a [u16; MAX_BASES],
+    keys: &'a [u16; MAX_LIVE],
+    moved: &'a [u64; MAX_LIVE],
+    live: usize,
+    key: Key,
+) -> bool
+    requires { ⌜ (live ≤ maxLive) × (climbs 0 (keysIn live (now keys)) ≡ true) ⌝ }
+    ensures { λ r. ⌜ r ≡ litKey (now (movers .entry)) live (now (keys .entry)) (now (moved .entry)) key ⌝ }
+{
+    let i = index_of(keys, live, key);
+    if live <= i {
+        return false;
+    }
+    lit_at(movers, keys, moved, live, i)
+}
+
+// All lamps, with their number.
+pub fn show<'a>(
+    movers: &'a [u16; MAX_BASES],
+    keys: &'a [u16; MAX_LIVE],
+    moved: &'a [u64; MAX_LIVE],
+    live: usize,
+) -> Lamps
+    ensures { λ r. ⌜ r ≡ shownIn (now (movers .entry)) live (now (keys .entry)) (now (moved .entry)) ⌝ }
+{
+    let mut lit = [false; MAX_LIVE];
+    let mut i = 0;
+    while i < MAX_LIVE {
+        lit[i] = lit_at(movers, keys, moved, live, i);
+        i += 1;
+    }
+    Lamps {
+        answer: LampsAnswer::Shown,
+        count: live,
+        lit: lit,
+    }
+}
+
+// A refused call: no lamp is lit.
+pub fn show_none(n: u8) -> Lamps
+    ensures { λ r. ⌜ r ≡ notShown n ⌝ }
+{
+    Lamps {
+        answer: LampsAnswer::Refused(n),
+        count: 0,
+        lit: [false; MAX_LIVE],
+    }
+}

@@ -1,0 +1,97 @@
+-- `movers::table::mark_back` meets its contract.
+-- Assumes nothing but the laws of proofs/.
+use borrow.Author.Needs.{needs}
+use native.Mathlib.Omega.{arith}
+use mathlib.Core.Path.{_≡_, refl, ap, sym, _∙_}
+use Prim.Native.Nat.{ℕ, suc, _-_, _≤_}
+use lib.ListN.{length, getD, set}
+use mathlib.Core.List.{List}
+use mathlib.Core.Path.{ap₂}
+use mathlib.Core.Bool.{Bool}
+use Rattle.net.specs.Limits.{maxBases, maxLive}
+use Rattle.words.specs.Sets.{setOf, meet}
+use Rattle.movers.specs.Tables.{givenBack}
+use Rattle.movers.proofs.Marks.{marked-size, back-turn, back-none}
+use Rattle.movers.proofs.table.mark_back.Statement.{statement}
+use Rattle.movers.proofs.table.mark_back.Tie as tie
+
+abbrev Inv-loop : tie.InvT-loop
+Inv-loop table₀ keys moved n set left₀ i₀ table left i =
+    (i ≤ n) × (n ≤ maxLive) × (length table ≡ maxBases) × (givenBack keys moved i (setOf maxBases left) table ≡ givenBack keys moved n (setOf maxBases set) table₀)
+
+abbrev μ-loop : tie.MeasureT-loop
+μ-loop table₀ keys moved n set left₀ i₀ table left i = i
+
+loop-holds : tie.Need-loop-holds Inv-loop μ-loop
+loop-holds c = (search needs, c .pre .1, c .pre .0, refl)
+
+returns : tie.Need-returns Inv-loop μ-loop
+returns c =
+    let at : tie.At-loop Inv-loop μ-loop = c .before .before in
+    let s = at .before in
+    back-none (s .args .keys .now) (s .args .moved .now) (at .loop .i) (at .loop .left) (at .loop .table) (c .if1 .taken) (at .loop .inv .2) ∙ at .loop .inv .3
+
+sub-i : tie.Need-sub-i Inv-loop μ-loop
+sub-i c = search needs
+
+mul-mark-shared : tie.Need-mul-mark-shared Inv-loop μ-loop
+mul-mark-shared c = search needs
+
+element-copy-out-mark-shared : tie.Need-element-copy-out-mark-shared Inv-loop μ-loop
+element-copy-out-mark-shared c = search needs
+
+mul-t14 : tie.Need-mul-t14 Inv-loop μ-loop
+mul-t14 c = search needs
+
+element-copy-out-t17 : tie.Need-element-copy-out-t17 Inv-loop μ-loop
+element-copy-out-t17 c = search needs
+
+mark-shared-requires : tie.Need-mark-shared-requires Inv-loop μ-loop
+mark-shared-requires c κs = search needs
+
+loop-less : tie.Need-loop-less Inv-loop μ-loop
+loop-less c = search needs
+
+loop-again : tie.Need-loop-again Inv-loop μ-loop
+loop-again c =
+    let at : tie.At-loop Inv-loop μ-loop = c .before .before .before .before .before .before in
+    let s = at .before in
+    let ks : List ℕ = s .args .keys .now in
+    let ws : List ℕ = s .args .moved .now in
+    let i : ℕ = at .loop .i - 1 in
+    let m : List Bool = setOf maxBases (at .loop .left) in
+    let (marks, rest) = c .mark-shared .ensures in (
+      search needs,
+      at .loop .inv .1,
+      ap length marks ∙ marked-size (meet m (setOf maxBases (getD ws i 0))) (getD ks i 0) (at .loop .table),
+      ap₂ (givenBack ks ws i) rest marks ∙ back-turn ks ws i m (at .loop .table) ∙ ap (λ (k : ℕ). givenBack ks ws k m (at .loop .table)) (let e : suc i ≡ at .loop .i = omega arith in e) ∙ at .loop .inv .3,
+    )
+
+mark-requires : tie.Need-mark-requires Inv-loop μ-loop
+mark-requires c κs = search needs
+
+returns-2 : tie.Need-returns-2 Inv-loop μ-loop
+returns-2 c =
+    let at : tie.At-loop Inv-loop μ-loop = c .before .before .before in
+    let s = at .before in
+    let e : at .loop .i ≡ 0 = omega arith in
+    c .mark .ensures ∙ ap (λ (k : ℕ). givenBack (s .args .keys .now) (s .args .moved .now) k (setOf maxBases (at .loop .left)) (at .loop .table)) (sym e) ∙ at .loop .inv .3
+
+pub mark-back-spec : {M : Type 1} → statement M
+mark-back-spec =
+    tie.close
+    (tie.spec
+    Inv-loop
+    μ-loop
+    loop-holds
+    returns
+    sub-i
+    mul-mark-shared
+    element-copy-out-mark-shared
+    mul-t14
+    element-copy-out-t17
+    mark-shared-requires
+    loop-less
+    loop-again
+    mark-requires
+    returns-2)
