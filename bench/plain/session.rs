@@ -102,7 +102,7 @@ impl Marking {
         sent
     }
 
-    /// 16: entries that are connected and have different out-places.
+    /// Entries that are connected and have different out-places.
     fn torn(&self, entries: &[Entry]) -> bool {
         let mut seen = 0u64;
         entries.iter().enumerate().any(|(i, e)| {
@@ -117,8 +117,16 @@ impl Marking {
         })
     }
 
+    /// 16, by the couplings after the firing. The added ones join entries with one out-place, so they play no part.
+    fn torn_after(&mut self, step: &Step) -> bool {
+        step.broken.iter().for_each(|&c| self.uncouple(c));
+        let torn = self.torn(&step.entries);
+        step.broken.iter().for_each(|&c| self.couple(c));
+        torn
+    }
+
     /// 13 to 16, or 0.
-    pub fn blocked(&self, step: &Step) -> u8 {
+    pub fn blocked(&mut self, step: &Step) -> u8 {
         if step
             .entries
             .iter()
@@ -129,15 +137,17 @@ impl Marking {
             14
         } else if step.added.iter().any(|&c| self.coupled(c)) {
             15
-        } else if step.entries.len() > 1 && self.torn(&step.entries) {
+        } else if step.entries.len() > 1 && self.torn_after(step) {
             16
         } else {
             0
         }
     }
 
-    /// Fires a step that nothing blocks; the moved parts.
+    /// Fires a step that nothing blocks; the moved parts. Both parts of a broken coupling have entries, so what the entries reach
+    /// with it removed is what they reached before.
     pub fn fire(&mut self, step: &Step) -> u64 {
+        step.broken.iter().for_each(|&c| self.uncouple(c));
         let moved = self.send(&step.entries, |e| e.to);
         step.added.iter().for_each(|&c| self.couple(c));
         moved
@@ -145,6 +155,7 @@ impl Marking {
 
     fn take_back(&mut self, step: &Step) {
         step.added.iter().for_each(|&c| self.uncouple(c));
+        step.broken.iter().for_each(|&c| self.couple(c));
         self.send(&step.entries, |e| e.from);
     }
 }

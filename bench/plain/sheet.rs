@@ -17,6 +17,8 @@ pub struct Step {
     pub needed: Vec<Coupling>,
     /// Out-couplings that are no in-couplings: what a firing adds and taking back removes.
     pub added: Vec<Coupling>,
+    /// In-couplings that are no out-couplings: what a firing removes and taking back adds.
+    pub broken: Vec<Coupling>,
 }
 
 pub struct Net {
@@ -127,12 +129,14 @@ fn read_step(bytes: &[u8], places: u8, parts: u8) -> Result<Step, Refusal> {
     let entries = read_entries(entries, places, parts).ok_or(8)?;
     let needed = read_couplings(ins, &entries, |e| e.from).ok_or(9)?;
     let mut added = read_couplings(outs, &entries, |e| e.to).ok_or(9)?;
-    refuse_if(needed.iter().any(|c| added.binary_search(c).is_err()), 9)?;
+    let mut broken = needed.clone();
+    broken.retain(|c| added.binary_search(c).is_err());
     added.retain(|c| needed.binary_search(c).is_err());
     Ok(Step {
         entries,
         needed,
         added,
+        broken,
     })
 }
 

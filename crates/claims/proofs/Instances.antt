@@ -15,7 +15,7 @@ use Rattle.net.specs.declared.Transition.{Transition}
 use Rattle.published.specs.Sets.{Max}
 use Rattle.published.specs.Backtracking.{BacktrackEnabled}
 use Rattle.published.specs.Causal.{CausalEnabled}
-use Rattle.published.specs.Sheets.{petriNet, orderOfLines}
+use Rattle.published.specs.Sheets.{petriNet, breaksNothing, orderOfLines}
 use Rattle.format.specs.NetOf.{netOf}
 use Rattle.sheet.specs.Checks.{sheetChecks}
 use Rattle.sheet.specs.Samples.{sheetA, sheetB}
@@ -37,7 +37,8 @@ use Rattle.session.specs.declared.Record.{Record}
 use Rattle.session.specs.declared.StartAnswer.the-variants.{NotStarted}
 use Rattle.session.proofs.Begins.{fresh-sound}
 use Rattle.claims.specs.Sessions.{sessionAfter}
-use Rattle.claims.specs.Published.{marksIn, historyIn, orderIn, CommandFires, CommandTakesBack, RecordAsPublished, FollowsPublished}
+use Rattle.claims.specs.States.{marksIn, historyIn, orderIn}
+use Rattle.claims.specs.Published.{CommandFires, CommandTakesBack, RecordAsPublished, FollowsPublished}
 use Rattle.claims.specs.WayBack.{keysGiven, Smallest}
 use Rattle.claims.specs.Demands.{Demand3}
 use Rattle.claims.proofs.Records.{answer-is}
@@ -95,7 +96,7 @@ answer-B cs t c =
     ∙ ap (λ (n : Net). answerOf (act n (play n cs (begin n)) c .answer)) sheetB-net
 
 shown : (cs : List (List ℕ)) (t : Tally) → RecordAsPublished sheetB (recordB cs t) (orderIn sheetB cs)
-shown cs t = published-B .sessions (published-B .wellFormed) cs t
+shown cs t = published-B .sessions (published-B .wellFormed .1 (ap breaksNothing sheetB-net)) cs t
 
 abbrev firings : List (List ℕ)
 firings = fireOf 0 ∷ fireOf 1 ∷ fireOf 2 ∷ []
@@ -114,7 +115,7 @@ taken-back-M5 t = shown firings t .undoesOnly t (undoOf 2) refl (answer-B firing
 
 -- and so where the same record is handed in
 pub handed-in-M5 : (t : Tally) → RecordAsPublished sheetB (recordB firings t) (orderOfLines (netOf sheetB) (heldIn sheetB (recordB firings t) .lines))
-handed-in-M5 t = published-B .sound (published-B .wellFormed) (recordB firings t) (passes-B firings t)
+handed-in-M5 t = published-B .sound (published-B .wellFormed .1 (ap breaksNothing sheetB-net)) (recordB firings t) (passes-B firings t)
 
 -- ---- T-02: a block of four commands on a fresh record of sheet B, the last cut short, with lists of five entries
 

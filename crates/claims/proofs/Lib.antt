@@ -5,6 +5,8 @@ pub mod Answers
 pub mod Records
 pub mod Sessions
 pub mod Counts
+pub mod Replies
+pub mod Uncoupling
 pub mod Published
 pub mod Pages
 pub mod Blocks
@@ -13,3 +15,4 @@ pub mod WayBack
 pub mod Lamps
 pub mod Demands
 pub mod Instances
+pub mod Clutch

@@ -142,7 +142,8 @@ pub record Soundness (s : List ℕ) : Type 0 where
 -- ---- Document 01's totals
 
 pub record SessionTotals (s : List ℕ) (cs : List (List ℕ)) : Type 0 where
-  -- at every point each base is in one place, bonded bases share a place, and the bonds have their number
+  -- at every point each base is in one place, bonded bases share a place, and the bonds with those that live firings broke are
+  -- as many as those of the start with those that live firings made (02, T-07)
   pub marking : Totals (netOf s) (journalAfter s cs)
   -- over at most 65,535 commands from a tally of zeros, fired less undone is the number of live firings
   pub live : length cs ≤ maxCount → sessionAfter s cs zeroTally .tally .fired ≡ sessionAfter s cs zeroTally .tally .undone + sessionAfter s cs zeroTally .session .firings .live

@@ -1,5 +1,7 @@
 -- The demands.
 pub mod Sessions
+pub mod States
+pub mod Uncoupling
 pub mod Published
 pub mod Pages
 pub mod Blocks

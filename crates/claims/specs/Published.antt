@@ -1,9 +1,6 @@
 -- What "firing and taking back do what the published definition does" means (demand 2), as statements about `commandOf`:
--- chapter 3 of document 004 (crate published), under document 01's reading, but for the key that a firing gets (02, T-03).
--- Statements only; proofs/ proves each.
---
--- M and H are the marking and the history that a record holds, place by place and transition by transition; ≺ is what
--- Definitions 10 and 12 keep over the session's commands. Two sets are the same where each has what the other has.
+-- chapter 3 of document 004 (crate published), under document 01's reading, but for the key that a firing gets (02, T-03);
+-- and section 4.1 (Uncoupling). Statements only; proofs/ proves each.
 use mathlib.Core.Path.{_≡_}
 use mathlib.Core.Logic.{_⊎_}
 use mathlib.Core.Bool.{true}
@@ -11,17 +8,19 @@ use mathlib.Core.List.{List, [], _∷_, _++_}
 use Prim.Native.Nat.{ℕ, suc, _<_}
 use lib.Dec.{eqb}
 use Rattle.causal.specs.Lists.{Mem}
-use Rattle.net.specs.Firing.{inSet}
+use Rattle.net.specs.Net.{arcsOf}
 use Rattle.net.specs.Checks.{clear}
-use Rattle.net.specs.Journal.{LiveLine, key, kindOf, numberOf, highestLive, lastGiven, without, transitionNamed, readChecks, spaceChecks, begin}
+use Rattle.net.specs.Journal.{LiveLine, key, kindOf, numberOf, highestLive, lastGiven, without, transitionNamed, readChecks, spaceChecks}
 use Rattle.net.specs.declared.Transition.{Transition}
 use Rattle.published.specs.Sets.{Iff, Item, Max}
 use Rattle.published.specs.Nets.{Definition2, WellFormed}
-use Rattle.published.specs.States.{Marks, Somewhere, IsMarking, EachInOnePlace, Keys}
+use Rattle.published.specs.States.{IsMarking, EachInOnePlace}
 use Rattle.published.specs.Forward.{Enabled, leaves, firedMarks, keysWith, keysAndZero, firedKeys}
 use Rattle.published.specs.Backtracking.{BacktrackEnabled, leavesBack, reversedMarks, reversedKeys}
-use Rattle.published.specs.Causal.{Order, noOrder, firedOrder, CausalEnabled, reversedOrder}
-use Rattle.published.specs.Sheets.{petriNet, marksOf, historyOf, orderAfter, orderOfLines, laterWithCommon}
+use Rattle.published.specs.Causal.{Order, firedOrder, CausalEnabled, reversedOrder}
+use Rattle.published.specs.Uncoupling.{WellFormed20, Keeps}
+use Rattle.published.specs.Sheets.{petriNet, keepsAll, breaksNothing, orderOfLines, laterWithCommon}
+use Rattle.published.specs.Uncouples.{UncouplesByCases}
 use Rattle.published.specs.Claims.{ByCases, Initial}
 use Rattle.format.specs.NetOf.{netOf}
 use Rattle.sheet.specs.Checks.{sheetChecks}
@@ -32,14 +31,10 @@ use Rattle.session.specs.Commands.{freshOf, commandOf}
 use Rattle.session.specs.Runs.{Answered}
 use Rattle.commands.specs.declared.Answer.the-variants.{Fired, Undone}
 use Rattle.claims.specs.Sessions.{sessionAfter}
+use Rattle.claims.specs.States.{marksIn, historyIn, orderIn, recordAfter, LineMoves}
+use Rattle.claims.specs.Uncoupling.{RecordUncouples}
 
--- ---- The state that a record holds
-
-abbrev pub marksIn : List ℕ → Record → Marks
-marksIn s r = marksOf (netOf s) (heldIn s r .marking)
-
-abbrev pub historyIn : List ℕ → Record → Keys
-historyIn s r = historyOf (heldIn s r)
+-- ---- The keys that a record gave
 
 -- the highest key ever given (02, T-03)
 abbrev pub givenIn : List ℕ → Record → ℕ
@@ -53,21 +48,7 @@ firedAs k = record { answer = Fired; key = key k }
 abbrev pub answeredAndZero : List Answered → ℕ → Type 0
 answeredAndZero rs k = (k ≡ 0) ⊎ Mem (firedAs k) rs
 
--- ≺ after the commands, from the empty relation
-abbrev pub orderIn : List ℕ → List (List ℕ) → Order
-orderIn s cs = orderAfter (netOf s) cs (begin (netOf s)) noOrder
-
 -- ---- What a command does
-
--- the record that a command hands back
-abbrev pub recordAfter : List ℕ → Record → Tally → List ℕ → Record
-recordAfter s r t c = commandOf s r t c .outcome .session
-
--- The line l is a firing of v, with the answer's key, and the moved bases on it are those that leave some place.
-pub record LineMoves (s : List ℕ) (r : Record) (t : Tally) (c : List ℕ) (v : Transition) (leaving : Marks) (l : LiveLine) : Type 0 where
-  pub transition : l .transition ≡ v
-  pub key : l .key ≡ commandOf s r t c .outcome .key
-  pub moved : (a : ℕ) → Iff (inSet (l .moved) a ≡ true) (Somewhere leaving a)
 
 -- The command c fires the transition v: it is answered Fired, and gives the marking of Definition 5 and ≺ of Definition 10.
 -- Its line goes at the end, and has as moved bases those that leave by Definition 5.
@@ -138,20 +119,26 @@ pub record RecordKeysAsPublished (s : List ℕ) (r : Record) : Type 0 where
       (givenIn s r ≡ highestLive (heldIn s r .lines) .0)
       ((u : Transition) (k : ℕ) → Iff (historyIn s (recordAfter s r t c) u k) (firedKeys (petriNet (netOf s)) (historyIn s r) (transitionNamed c) u k))
 
--- ---- All of it, of every accepted sheet: its net is one of Definition 2 and well-formed (Definition 3), with the chapter's cases
--- at each place; a fresh record holds the chapter's initial state; and, for a well-formed net, every record that a session
--- can reach from a fresh one, and every record that is handed in and passes refusal 10's test. The past of such a record is
--- not known, and its ≺ is what Definition 10 gives on the forward run of its live firings, each with its own key. That the
--- net is well-formed is a claim of its own: a sheet of T-07 need not keep Definition 3(2), and of such a net the claims that
--- ask for it say nothing.
+-- ---- All of it, of every accepted sheet: its net is one of Definition 2 and meets Definition 20 without 3(2), with the published
+-- cases at each place; a fresh record holds the chapter's initial state; and every record that a session can reach from a
+-- fresh one, and every record that is handed in and passes refusal 10's test, does what section 4.1 says (Uncoupling) and,
+-- where the net is well-formed by Definition 3, what chapter 3 says. The past of a record that is handed in is not known, and
+-- its ≺ is what Definition 10 gives on the forward run of its live firings, each with its own key.
 
 pub record FollowsPublished (s : List ℕ) : Type 0 where
   pub definition2 : Definition2 (petriNet (netOf s))
-  pub wellFormed : WellFormed (petriNet (netOf s))
+  -- Definition 20, without 3(2); the net is well-formed by Definition 3 exactly if no step of it breaks a bond
+  pub wellFormed20 : WellFormed20 (petriNet (netOf s))
+  pub wellFormed : Iff (WellFormed (petriNet (netOf s))) (breaksNothing (netOf s) ≡ true)
+  -- and a transition of it breaks none exactly if each of its in-bonds is an out-bond
+  pub keeps : (v : Transition) → petriNet (netOf s) .isTransition v → Iff (Keeps (petriNet (netOf s)) v) (keepsAll (arcsOf (netOf s) v) ≡ true)
   pub byCases : ByCases (netOf s)
+  pub uncouplesByCases : UncouplesByCases (netOf s)
   pub initial : Initial (netOf s) (marksIn s (freshOf s)) (historyIn s (freshOf s))
   pub sessions : WellFormed (petriNet (netOf s)) → (cs : List (List ℕ)) (t : Tally) → RecordAsPublished s (sessionAfter s cs t .session) (orderIn s cs)
   pub sound : WellFormed (petriNet (netOf s)) → (r : Record) → soundFor s r ≡ true → RecordAsPublished s r (orderOfLines (netOf s) (heldIn s r .lines))
+  pub uncouplesSessions : (cs : List (List ℕ)) (t : Tally) → RecordUncouples s (sessionAfter s cs t .session) (orderIn s cs)
+  pub uncouplesSound : (r : Record) → soundFor s r ≡ true → RecordUncouples s r (orderOfLines (netOf s) (heldIn s r .lines))
   pub keys : (cs : List (List ℕ)) (t : Tally) → RecordKeysAsPublished s (sessionAfter s cs t .session)
   pub soundKeys : (r : Record) → soundFor s r ≡ true → RecordKeysAsPublished s r
   -- the highest given is the highest of all keys in a session's answers, 0 where there are none; of a record that is handed in

@@ -12,9 +12,10 @@ use borrow.Author.Tests.{eqb-true, eqb-false, eq-eqb, ne-eqb, not-true}
 use Rattle.causal.specs.Lists.{Mem}
 use Rattle.causal.proofs.Tests.{test}
 use Rattle.net.specs.Tests.{any, table}
-use Rattle.net.specs.Net.{Arcs, Marking}
+use Rattle.net.specs.Net.{Arcs}
 use Rattle.net.specs.Connection.{connected}
-use Rattle.net.specs.Firing.{bondsSeen, tornApart}
+use Rattle.net.specs.Firing.{tornWith}
+use Rattle.net.specs.declared.Bond.{Bond}
 use Rattle.net.specs.declared.Entry.{Entry}
 use Rattle.net.proofs.Tests.{same-test, and-l, and-r, and-i, any-e, any-i, any-cong}
 use Rattle.net.proofs.Tables.{getD-table}
@@ -22,8 +23,8 @@ use Rattle.labels.specs.Labelled.{labelIn, Parted}
 use Rattle.groups.specs.Groups.{firsts, side}
 
 -- by labels: two entries with different out-places have bases with one label
-abbrev tornBy : (ℕ → ℕ) → List Entry → Bool
-tornBy lab es = any (λ (e : Entry). any (λ (d : Entry). eqb (lab (e .base)) (lab (d .base)) && not (eqb (e .to) (d .to))) es) es
+abbrev tornIn : (ℕ → ℕ) → List Entry → Bool
+tornIn lab es = any (λ (e : Entry). any (λ (d : Entry). eqb (lab (e .base)) (lab (d .base)) && not (eqb (e .to) (d .to))) es) es
 
 module _ (lab : ℕ → ℕ) where
   abbrev to : List Entry → ℕ → ℕ → ℕ
@@ -52,7 +53,7 @@ module _ (lab : ℕ → ℕ) where
       later k ih (inl q) = absurd (eqb-false (lab (a .base)) (lab (e .base)) k (ap (λ (z : Entry). lab (z .base)) (sym q)))
       later k ih (inr r) = let (w, u, v, z) = ih r in (w, inr u, v, rw k z)
 
-  torn-first : (es : List Entry) (old : ℕ → ℕ) → any (λ (e : Entry). not (eqb (e .to) (to es (old (e .base)) (lab (e .base))))) es ≡ tornBy lab es
+  torn-first : (es : List Entry) (old : ℕ → ℕ) → any (λ (e : Entry). not (eqb (e .to) (to es (old (e .base)) (lab (e .base))))) es ≡ tornIn lab es
   torn-first es old = any-cong (λ (e : Entry). not (eqb (e .to) (to es (old (e .base)) (lab (e .base))))) (λ (e : Entry). not (eqb (e .to) (first e))) es
       (λ e m. ap (λ (x : ℕ). not (eqb (e .to) x)) (first-any es (old (e .base)) 0 e m))
       ∙ same-test (any (λ (e : Entry). not (eqb (e .to) (first e))) es) (any pairs es) one two
@@ -81,19 +82,19 @@ module _ (lab : ℕ → ℕ) where
           (eqb-true (e .to) (first e) p ∙ ap (to es 0) same ∙ sym q)))))
           (λ p. any-i (λ (x : Entry). not (eqb (x .to) (first x))) es e m (ap not p))
 
--- ---- labels that are a partition by the marking's bonds
+-- ---- labels that are a partition by the bonds
 
-module _ (N : ℕ) (l : List ℕ) (t : Arcs) (s : Marking) (P : Parted N l (s .bonds)) (h : (e : Entry) → Mem e (t .entries) → e .base < N) where
-  torn-parted : tornBy (labelIn l) (t .entries) ≡ tornApart t s
+module _ (N : ℕ) (l : List ℕ) (t : Arcs) (bs : List Bond) (P : Parted N l bs) (h : (e : Entry) → Mem e (t .entries) → e .base < N) where
+  torn-parted : tornIn (labelIn l) (t .entries) ≡ tornWith t bs
   torn-parted = any-cong (λ (e : Entry). any (λ (d : Entry). eqb (labelIn l (e .base)) (labelIn l (d .base)) && not (eqb (e .to) (d .to))) (t .entries))
-      (λ (e : Entry). any (λ (d : Entry). connected (s .bonds) (e .base) (d .base) && not (eqb (e .to) (d .to))) (t .entries)) (t .entries)
+      (λ (e : Entry). any (λ (d : Entry). connected bs (e .base) (d .base) && not (eqb (e .to) (d .to))) (t .entries)) (t .entries)
       (λ e m. any-cong (λ (d : Entry). eqb (labelIn l (e .base)) (labelIn l (d .base)) && not (eqb (e .to) (d .to)))
-      (λ (d : Entry). connected (s .bonds) (e .base) (d .base) && not (eqb (e .to) (d .to))) (t .entries)
+      (λ (d : Entry). connected bs (e .base) (d .base) && not (eqb (e .to) (d .to))) (t .entries)
       (λ d k. ap (λ (x : Bool). x && not (eqb (e .to) (d .to))) (P .says (e .base) (d .base) (h e m) (h d k))))
 
   -- once all entries were sent in a copy of the places
   pub torn-sent : (old next : List ℕ) → next ≡ table N (λ p. firsts (side false) (labelIn l) (t .entries) (getD old p 0) (labelIn l p))
-      → any (λ (e : Entry). not (eqb (e .to) (getD next (e .base) 0))) (t .entries) ≡ tornApart t s
+      → any (λ (e : Entry). not (eqb (e .to) (getD next (e .base) 0))) (t .entries) ≡ tornWith t bs
   torn-sent old next q =
       let g : ℕ → ℕ = λ p. firsts (side false) (labelIn l) (t .entries) (getD old p 0) (labelIn l p) in
       any-cong (λ (e : Entry). not (eqb (e .to) (getD next (e .base) 0))) (λ (e : Entry). not (eqb (e .to) (g (e .base)))) (t .entries)
@@ -101,12 +102,12 @@ module _ (N : ℕ) (l : List ℕ) (t : Arcs) (s : Marking) (P : Parted N l (s .b
       ∙ torn-first (labelIn l) (t .entries) (λ p. getD old p 0) ∙ torn-parted
 
 -- one entry has none to differ from
-pub few-together : (t : Arcs) (s : Marking) (n : ℕ) → n ≡ length (t .entries) → n < 2 → false ≡ tornApart t s
-few-together t s n e h = go (t .entries) (let z = e in omega arith)
+pub few-together : (t : Arcs) (bs : List Bond) (n : ℕ) → n ≡ length (t .entries) → n < 2 → false ≡ tornWith t bs
+few-together t bs n e h = go (t .entries) (let z = e in omega arith)
   where
-    go : (es : List Entry) → length es < 2 → false ≡ any (λ (e : Entry). any (λ (d : Entry). connected (bondsSeen t (s .bonds)) (e .base) (d .base) && not (eqb (e .to) (d .to))) es) es
+    go : (es : List Entry) → length es < 2 → false ≡ any (λ (e : Entry). any (λ (d : Entry). connected bs (e .base) (d .base) && not (eqb (e .to) (d .to))) es) es
     go [] h = refl
-    go (a ∷ []) h = rw (eq-eqb (a .to) (a .to) refl) (sym (none (connected (bondsSeen t (s .bonds)) (a .base) (a .base))))
+    go (a ∷ []) h = rw (eq-eqb (a .to) (a .to) refl) (sym (none (connected bs (a .base) (a .base))))
       where
         none : (b : Bool) → (b && false || false || false) ≡ false
         none true = refl

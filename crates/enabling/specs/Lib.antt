@@ -1,2 +1,3 @@
--- What the callers know of a transition and a marking.
+-- What the callers know of a transition and a marking; bonds met in one pass.
+pub mod Line
 pub mod Ready

@@ -12,8 +12,8 @@ use Rattle.net.specs.declared.Entry.{Entry}
 use Rattle.marking.specs.declared.Marking.{Marking}
 use Rattle.marking.specs.Form.{bondsOf, markingOf, laid}
 
--- n bases; m is in its form; its bonds are in strict order and of bases of the net; the transition's entries and the
--- bonds that it adds are of such bases too.
+-- n bases; m is in its form; its bonds are in strict order and of bases of the net; the transition's entries and its
+-- bonds are of such bases too.
 pub record Ready (n : ℕ) (t : Arcs) (m : Marking) : Type 0 where
   pub few : n ≤ maxBases
   pub form : m ≡ laid (markingOf n m)
@@ -21,3 +21,4 @@ pub record Ready (n : ℕ) (t : Arcs) (m : Marking) : Type 0 where
   pub range : (b : Bond) → hasBond b (bondsOf m) ≡ true → (b .lo < b .hi) × (b .hi < n)
   pub bases : (e : Entry) → Mem e (t .entries) → e .base < n
   pub outs : (b : Bond) → hasBond b (t .outBonds) ≡ true → (b .lo < b .hi) × (b .hi < n)
+  pub ins : (b : Bond) → hasBond b (t .inBonds) ≡ true → (b .lo < b .hi) × (b .hi < n)

@@ -2,4 +2,5 @@
 pub mod Bytes
 pub mod Parts
 pub mod Arcs
+pub mod Sides
 pub mod NetOf

@@ -7,6 +7,7 @@ ghost use Rattle.net.specs.Net.{lessBond};
 ghost use Rattle.format.specs.Bytes.{outside, byteAt, wordAt, baseAt, entryAt, bondAt, entryWidth, bondWidth};
 ghost use Rattle.format.specs.Parts.{versionOf, placesOf, basesOf, transitionsOf, offsetOf, lengthOf, partOf, startPlaces, startBonds, transitionBytes};
 ghost use Rattle.format.specs.Arcs.{entryCount, nthEntry, inAt, inCount, nthInBond, outAt, outCount, nthOutBond, arcsWidth};
+ghost use Rattle.format.specs.Sides.{bondCount, nthBond};
 ghost use Rattle.format.specs.NetOf.{startBondCount, nthStartBond};
 use net::Base;
 use net::Bond;
@@ -248,6 +249,19 @@ pub fn out_bond(b: &[u8], i: u8) -> Bond
 {
     let at = out_at(b);
     bond_at(b, at + 1 + BOND_WIDTH as u32 * (i as u32))
+}
+
+// How many couplings stand on a side of the transition, and the one at i: `out` for the out-couplings.
+pub fn bond_count(b: &[u8], out: bool) -> u8
+    ensures { λ r. ⌜ r ≡ bondCount (now (b .entry)) out ⌝ }
+{
+    if out { out_count(b) } else { in_count(b) }
+}
+
+pub fn nth_bond(b: &[u8], out: bool, i: u8) -> Bond
+    ensures { λ r. ⌜ r ≡ nthBond (now (b .entry)) out i ⌝ }
+{
+    if out { out_bond(b, i) } else { in_bond(b, i) }
 }
 
 // The length that the counts give.

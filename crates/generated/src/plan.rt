@@ -19,7 +19,8 @@ pub struct Plan {
 
 // Routes: 0, each entry has places of its own; the entries of a transition come from one place and go to several; they go
 // together; they go together around a ring of places; the same, each transition for two bases of its own group; every other
-// transition takes its entries from place 0 to another place, and the one after it takes the same entries back.
+// transition takes its entries from place 0 to another place, and the one after it takes the same entries back; the same, but some
+// of them go to other places than back; the same, each there and back for two bases of its own group.
 const FORK: u64 = 1;
 
 const TOGETHER: u64 = 2;
@@ -29,6 +30,10 @@ const RING: u64 = 3;
 const GROUPS: u64 = 4;
 
 const SHUTTLE: u64 = 5;
+
+const PARTING: u64 = 6;
+
+const PAIRS: u64 = 7;
 
 // The plan of a row of numbers: its numbers 7 to 14.
 pub fn plan_of(row: &[u64]) -> Plan {
@@ -58,10 +63,10 @@ pub fn varied(p: Plan, seed: u64) -> Plan {
 
 // Whether base b is an entry of transition t: by lot, and one base always.
 pub fn enters(p: Plan, seed: u64, t: u64, b: u64) -> bool {
-    if p.route == GROUPS {
-        return b / 2 == below(t, p.bases / 2);
+    let k = if SHUTTLE <= p.route { t / 2 } else { t };
+    if (p.route == GROUPS) | (p.route == PAIRS) {
+        return b / 2 == below(k, p.bases / 2);
     }
-    let k = if p.route == SHUTTLE { t / 2 } else { t };
     if b == below(k, p.bases) {
         return true;
     }
@@ -84,9 +89,17 @@ fn stop(p: Plan, seed: u64, t: u64, before: bool) -> u64 {
     below(mixed(seed, t / 2, 0, 2), p.places)
 }
 
+// Where a way back that parts its entries takes a base: of 4, one goes to any place, three to 0.
+fn part_stop(p: Plan, x: u64) -> u64 {
+    if x % 4 == 0 {
+        return below(x / 4, p.places);
+    }
+    0
+}
+
 // The in-place and the out-place of base b in transition t.
 pub fn from_of(p: Plan, seed: u64, t: u64, b: u64) -> u64 {
-    if p.route == SHUTTLE {
+    if SHUTTLE <= p.route {
         return stop(p, seed, t, true);
     }
     if RING <= p.route {
@@ -99,7 +112,10 @@ pub fn from_of(p: Plan, seed: u64, t: u64, b: u64) -> u64 {
 }
 
 pub fn to_of(p: Plan, seed: u64, t: u64, b: u64) -> u64 {
-    if p.route == SHUTTLE {
+    if (PARTING <= p.route) & (t % 2 == 1) {
+        return part_stop(p, mixed(seed, t, b, 3));
+    }
+    if SHUTTLE <= p.route {
         return stop(p, seed, t, false);
     }
     if RING <= p.route {
@@ -128,22 +144,58 @@ fn adds(p: Plan, seed: u64, t: u64, a: u64, b: u64) -> bool {
     falls(mixed(seed, t, a, b % 64 + 200), p.outgoing)
 }
 
-// Whether the bond a-b may be an in-bond of transition t: on a shuttle's way back, one that the way out adds.
-fn may_come(p: Plan, seed: u64, t: u64, a: u64, b: u64) -> bool {
-    if p.route != SHUTTLE {
-        return true;
+// How many of 16 in-bonds transition t breaks (document 02, T-07): of five transitions one breaks all, one about half, the others none.
+// Where some go elsewhere than back, each breaks at least about half.
+const ALL: u64 = 16;
+
+fn breaking(p: Plan, seed: u64, t: u64) -> u64 {
+    let x = mixed(seed, t, 0, 8) % 5;
+    if x == 0 {
+        return ALL;
+    }
+    if (x == 1) | (PARTING <= p.route) {
+        8
+    } else {
+        0
+    }
+}
+
+// Whether two entries have one out-place.
+fn go_together(p: Plan, seed: u64, t: u64, a: u64, b: u64) -> bool {
+    to_of(p, seed, t, a) == to_of(p, seed, t, b)
+}
+
+// Whether transition t breaks the bond a-b where that is an in-bond.
+fn breaks(p: Plan, seed: u64, t: u64, a: u64, b: u64) -> bool {
+    !go_together(p, seed, t, a, b) | falls(mixed(seed, t, a, b % 64 + 300), breaking(p, seed, t))
+}
+
+// Whether the bond a-b is drawn as an in-bond of transition t: on a shuttle's way back, of those that the way out adds, and all of them
+// where all break, so that both can fire again.
+fn drawn(p: Plan, seed: u64, t: u64, a: u64, b: u64) -> bool {
+    let lot = falls(mixed(seed, t, a, b % 64 + 100), p.incoming);
+    if p.route < SHUTTLE {
+        return lot;
     }
     if t % 2 == 0 {
         return false;
     }
-    adds(p, seed, t - 1, a, b)
+    (lot | (breaking(p, seed, t) == ALL)) & adds(p, seed, t - 1, a, b)
 }
 
-// Whether the bond a-b of two entries is an in-bond of transition t. It is an out-bond then, so that both places agree.
+// Whether the bond a-b of two entries is an in-bond of transition t: they have one in-place, and one out-place too where it keeps its bonds.
 fn comes(p: Plan, seed: u64, t: u64, a: u64, b: u64) -> bool {
     let one = from_of(p, seed, t, a) == from_of(p, seed, t, b);
-    let drawn = falls(mixed(seed, t, a, b % 64 + 100), p.incoming);
-    one & (drawn & may_come(p, seed, t, a, b))
+    let fits = go_together(p, seed, t, a, b) | (breaking(p, seed, t) != 0);
+    one & (fits & drawn(p, seed, t, a, b))
+}
+
+// Whether the bond a-b of two entries is an out-bond: an in-bond that is kept, or one that is added.
+fn leaves(p: Plan, seed: u64, t: u64, a: u64, b: u64) -> bool {
+    if comes(p, seed, t, a, b) {
+        return !breaks(p, seed, t, a, b);
+    }
+    go_together(p, seed, t, a, b) & adds(p, seed, t, a, b)
 }
 
 // Which bonds: those of the start, of a transition's in-bonds, of its out-bonds.
@@ -153,19 +205,17 @@ pub const IN: u64 = 1;
 
 pub const OUT: u64 = 2;
 
-// Whether two bases are entries of transition t with one out-place.
-fn go_together(p: Plan, seed: u64, t: u64, a: u64, b: u64) -> bool {
-    let both = enters(p, seed, t, a) & enters(p, seed, t, b);
-    both & (to_of(p, seed, t, a) == to_of(p, seed, t, b))
-}
-
 // Whether the bond a-b is among those of the start, or of transition t.
 pub fn bonded(p: Plan, seed: u64, t: u64, a: u64, b: u64, which: u64) -> bool {
     if which == START {
         return starts_bonded(p, seed, a, b);
     }
-    if !go_together(p, seed, t, a, b) {
+    if !(enters(p, seed, t, a) & enters(p, seed, t, b)) {
         return false;
     }
-    comes(p, seed, t, a, b) | ((which == OUT) & adds(p, seed, t, a, b))
+    if which == IN {
+        comes(p, seed, t, a, b)
+    } else {
+        leaves(p, seed, t, a, b)
+    }
 }

@@ -1,25 +1,38 @@
--- Document 01's marked cases, the list of check numbers, and a case where two refusals hold: all by computation.
+-- Document 01's marked cases, T-07's, the list of check numbers, and a case where two refusals hold: all by computation.
 -- Assumes nothing.
 use mathlib.Core.Path.{_≡_, refl}
 use mathlib.Core.Bool.{true}
 use mathlib.Core.List.{List, [], _∷_}
 use Prim.Native.Nat.{ℕ}
 use Rattle.net.specs.Tests.{keep}
-use Rattle.net.specs.Net.{Net}
+use Rattle.net.specs.Net.{Net, arcsOf}
 use Rattle.net.specs.Rules.{netRule}
 use Rattle.net.specs.Checks.{Check, numbers}
-use Rattle.net.specs.Journal.{Journal, refused, begin, act, play, checks, readChecks, fireChecks, undoChecks}
+use Rattle.net.specs.Journal.{Journal, refused, transition, begin, act, play, checks, readChecks, fireChecks, undoChecks}
+use Rattle.net.specs.Firing.{tornWith}
 use Rattle.net.specs.Cases.{netB, fireOf, marked, AllHold}
+use Rattle.net.specs.Clutch.{netC, clutchCases}
 use Rattle.net.specs.declared.Transition.{Transition}
 use Rattle.net.specs.declared.Key.{Key}
 
 -- M1 to M12.
-pub marked-hold : AllHold marked
+pub marked-hold : AllHold netB marked
 marked-hold = (refl, (refl, (refl, (refl, (refl, (refl, (refl, (refl, (refl, (refl, (refl, (refl, tt))))))))))))
 
 -- Sheet B's net meets the sheet's rules.
 pub netB-rule : netRule netB ≡ true
 netB-rule = refl
+
+-- The cases with steps that uncouple (02, T-07), on a net that meets the rules.
+pub clutch-hold : AllHold netC clutchCases
+clutch-hold = (refl, (refl, (refl, (refl, (refl, (refl, (refl, (refl, (refl, (refl, tt))))))))))
+
+pub netC-rule : netRule netC ≡ true
+netC-rule = refl
+
+-- netC opens 0-1, though 16 by the couplings before the firing would refuse it.
+pub torn-with-old : tornWith (arcsOf netC (transition 1)) (play netC (fireOf 0 ∷ []) (begin netC) .marking .bonds) ≡ true
+torn-with-old = refl
 
 -- The refusals of a command, in checking order.
 pub read-numbers : (c : List ℕ) → numbers (readChecks c) ≡ 21 ∷ 11 ∷ []

@@ -1,4 +1,4 @@
--- All that proofs/Claimed says, of every net that meets the sheet's rules; and that sheet B's net is one.
+-- All that proofs/Claimed says, of every net that meets the sheet's rules; and that sheet B's net and T-07's netC are such.
 -- Assumes nothing.
 use mathlib.Core.Path.{_≡_}
 use mathlib.Core.Bool.{true}
@@ -6,12 +6,13 @@ use Rattle.net.specs.Net.{Net}
 use Rattle.net.specs.Rules.{netRule}
 use Rattle.net.specs.Journal.{play, begin}
 use Rattle.net.specs.Cases.{netB}
+use Rattle.net.specs.Clutch.{netC}
 use Rattle.net.proofs.Claimed.{Claimed}
 use Rattle.net.proofs.Demand3.{demand3}
 use Rattle.net.proofs.History.{stays-sound, journal-sound}
 use Rattle.net.proofs.Totals.{totals}
 use Rattle.net.proofs.Pairs.{few-bonds}
-use Rattle.net.proofs.Cases.{netB-rule}
+use Rattle.net.proofs.Cases.{netB-rule, netC-rule}
 
 pub claims : (net : Net) → netRule net ≡ true → Claimed net
 claims net ok = record {
@@ -24,3 +25,6 @@ claims net ok = record {
 
 pub claims-of-B : Claimed netB
 claims-of-B = claims netB netB-rule
+
+pub claims-of-C : Claimed netC
+claims-of-C = claims netC netC-rule

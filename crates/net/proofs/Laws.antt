@@ -1,7 +1,8 @@
 -- The local laws of one step (causal's `Laws`), for firing and taking back as document 01 has them.
 -- Assumes what the rules give of each transition on the sheet (`Fit`).
 use mathlib.Core.Path.{_≡_, refl, sym, _∙_, subst⁻¹}
-use mathlib.Core.Bool.{Bool, true, false}
+use mathlib.Core.Logic.{_⊎_, inl, inr}
+use mathlib.Core.Bool.{Bool, true, false, and-true}
 use mathlib.Core.List.{List}
 use Prim.Native.Nat.{ℕ, _<_}
 use lib.ListN.{length}
@@ -10,13 +11,15 @@ use Rattle.causal.specs.Runs.{Laws}
 use Rattle.causal.proofs.Tests.{both}
 use Rattle.net.specs.Net.{Arcs, Marking, Net, bond, sameBond, lessBond, hasBond, place, arcsOf}
 use Rattle.net.specs.Marking.{Good}
-use Rattle.net.specs.Firing.{inSet, moves, fire, undo, Fires}
+use Rattle.net.specs.Firing.{inSet, moves, bondsSeen, fire, undo, Fires}
+use Rattle.net.specs.declared.Bond.{Bond}
 use Rattle.net.specs.declared.Entry.{Entry}
 use Rattle.net.specs.declared.Transition.{Transition}
 use Rattle.net.proofs.Tests.{fails}
 use Rattle.net.proofs.Sorted.{ascending-ext}
 use Rattle.net.proofs.Bonds.{bond-order}
-use Rattle.net.proofs.Moves.{sent-none, Fit, view, see, seen-place, seen-first, mem-moved, out-moves}
+use Rattle.net.proofs.Moves.{sent-none, Fit, view, see, seen-place, seen-first, mem-moved, in-moves, out-moves}
+use Rattle.net.proofs.Change.{none-after}
 use Rattle.net.proofs.Fire.{place-fire, has-fire, fire-good, misplaced-like, bondAbsent-like, bondPresent-like, tornApart-like, moved-like, fire-like}
 use Rattle.net.proofs.Undo.{undo-good, undo-on, undo-off}
 
@@ -28,17 +31,24 @@ module _ (net : Net) (fits : (t : Transition) → t .0 < length (net .transition
       λ i. record { places = ps i; bonds = bs i }
 
   law-good : {s z : Marking} {a : Transition} {m : List Bool} → Good net s → Fires net s a m z → Good net z
-  law-good {s} {z} {a} g f = rw (f .gives) (fire-good net s g (arcsOf net a) (fits a (f .listed)) (f .together))
+  law-good {s} {z} {a} g f = rw (f .gives) (fire-good net s g (arcsOf net a) (fits a (f .listed)))
 
   law-frame : {s z : Marking} {a : Transition} {m : List Bool} → Good net s → Fires net s a m z → (p : ℕ) → inSet m p ≡ false → view s p ≡ view z p
   law-frame {s} {z} {a} {m} g f p h =
       let t : Arcs = arcsOf net a in
       let F : Fit net t = fits a (f .listed) in
       let off : moves (s .bonds) (t .entries) p ≡ false = sym (mem-moved net s g t F p) ∙ rw (← f .moves-m) h in
+      let no-out : (b : Bond) → (b .lo ≡ p) ⊎ (b .hi ≡ p) → hasBond b (t .outBonds) ≡ false = λ b k. fails (hasBond b (t .outBonds)) (λ x. ends b (out-moves net s g t F b x) off k) in
+      let no-in : (b : Bond) → (b .lo ≡ p) ⊎ (b .hi ≡ p) → hasBond b (t .inBonds) ≡ false = λ b k. fails (hasBond b (t .inBonds)) (λ x. ends b (in-moves net s g t F b x) off k) in
       rw (f .gives) (see s (fire (net .bases) t s) p
-      (sym (place-fire net s g t F p ∙ sent-none (λ (e : Entry). e .to) (s .bonds) (t .entries) p (place s p) off))
-      (λ q. sym (has-fire net s g t F (bond p q) ∙ rw (fails (hasBond (bond p q) (t .outBonds)) (λ k. both (moves (s .bonds) (t .entries) p) (out-moves net s g t F (bond p q) k .0) off))))
-      (λ q. sym (has-fire net s g t F (bond q p) ∙ rw (fails (hasBond (bond q p) (t .outBonds)) (λ k. both (moves (s .bonds) (t .entries) p) (out-moves net s g t F (bond q p) k .1) off)))))
+      (sym (place-fire net s g t F p ∙ sent-none (λ (e : Entry). e .to) (bondsSeen t (s .bonds)) (t .entries) p (place s p) (none-after net s g t F p off)))
+      (λ q. sym (has-fire net s g t F (bond p q) ∙ rw (no-out (bond p q) (inl refl), no-in (bond p q) (inl refl)) (and-true (hasBond (bond p q) (s .bonds)))))
+      (λ q. sym (has-fire net s g t F (bond q p) ∙ rw (no-out (bond q p) (inr refl), no-in (bond q p) (inr refl)) (and-true (hasBond (bond q p) (s .bonds))))))
+    where
+      ends : (b : Bond) → (moves (s .bonds) (arcsOf net a .entries) (b .lo) ≡ true) × (moves (s .bonds) (arcsOf net a .entries) (b .hi) ≡ true) → moves (s .bonds) (arcsOf net a .entries) p ≡ false
+          → (b .lo ≡ p) ⊎ (b .hi ≡ p) → ⊥
+      ends b m o (inl e) = both (moves (s .bonds) (arcsOf net a .entries) p) (rw e at (m .0)) o
+      ends b m o (inr e) = both (moves (s .bonds) (arcsOf net a .entries) p) (rw e at (m .1)) o
 
   law-local : {s z s′ : Marking} {a : Transition} {m : List Bool} → Good net s → Good net s′ → Fires net s a m z → ((p : ℕ) → inSet m p ≡ true → view s p ≡ view s′ p)
       → (z′ : Marking) × Fires net s′ a m z′ × ((p : ℕ) → inSet m p ≡ true → view z p ≡ view z′ p)

@@ -6,6 +6,8 @@ pub mod Sorted
 pub mod Bonds
 pub mod Connection
 pub mod Moves
+pub mod Change
+pub mod Uncoupling
 pub mod Fire
 pub mod Undo
 pub mod Laws

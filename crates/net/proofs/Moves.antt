@@ -41,6 +41,17 @@ sent-is f bs (e ∷ es) p old v h k = go (connected bs (e .base) p) refl h (λ a
     go true a b ih = k e (inl refl) a
     go false a b ih = ih b
 
+-- where p and q are connected to the same entries, and to one at least, they go to one place
+pub sent-on : (f : Entry → ℕ) (bs : List Bond) (es : List Entry) (p q u v : ℕ) → moves bs es p ≡ true → ((e : Entry) → connected bs (e .base) p ≡ connected bs (e .base) q)
+    → sent f bs es p u ≡ sent f bs es q v
+sent-on f bs [] p q u v h k = both false h refl
+sent-on f bs (e ∷ es) p q u v h k = go (connected bs (e .base) p) (k e) h (λ a. sent-on f bs es p q u v a k)
+  where
+    go : (c : Bool) → c ≡ connected bs (e .base) q → (c || moves bs es p) ≡ true → (moves bs es p ≡ true → sent f bs es p u ≡ sent f bs es q v)
+        → pick c (f e) (sent f bs es p u) ≡ pick (connected bs (e .base) q) (f e) (sent f bs es q v)
+    go true a b ih = rw (← a)
+    go false a b ih = rw (← a) (ih b)
+
 -- p goes to a place that is there, if each entry has such a place and p's old one is such
 pub sent-below : (f : Entry → ℕ) (bs : List Bond) (es : List Entry) (p old k : ℕ) → ((e : Entry) → Mem e es → f e < k) → old < k → sent f bs es p old < k
 sent-below f bs [] p old k h o = o
@@ -60,7 +71,9 @@ pub record Fit (net : Net) (t : Arcs) : Type 0 where
   pub bases : (e : Entry) → Mem e (t .entries) → e .base < net .bases
   pub from : (e : Entry) → Mem e (t .entries) → e .from < net .places
   pub to : (e : Entry) → Mem e (t .entries) → e .to < net .places
-  pub ins : (b : Bond) → hasBond b (t .inBonds) ≡ true → (e : Entry) × (d : Entry) × Joins t b e d
+  pub ins : (b : Bond) → hasBond b (t .inBonds) ≡ true → (e : Entry) × (d : Entry) × Joins t b e d × (e .from ≡ d .from)
+  pub lowIn : (b : Bond) → hasBond b (t .inBonds) ≡ true → b .lo < b .hi
+  pub risingIn : Ascending sameBond lessBond (t .inBonds)
   pub outs : (b : Bond) → hasBond b (t .outBonds) ≡ true → (e : Entry) × (d : Entry) × Joins t b e d × (e .to ≡ d .to)
   pub low : (b : Bond) → hasBond b (t .outBonds) ≡ true → b .lo < b .hi
   pub rising : Ascending sameBond lessBond (t .outBonds)
@@ -126,6 +139,9 @@ module _ (net : Net) (s : Marking) (G : Good net s) (t : Arcs) (F : Fit net t) w
 
   pub out-moves : (b : Bond) → hasBond b (t .outBonds) ≡ true → (moves (s .bonds) (t .entries) (b .lo) ≡ true) × (moves (s .bonds) (t .entries) (b .hi) ≡ true)
   out-moves b h = let (e, d, J, _) = F .outs b h in joins-moves b e d J
+
+  pub in-moves : (b : Bond) → hasBond b (t .inBonds) ≡ true → (moves (s .bonds) (t .entries) (b .lo) ≡ true) × (moves (s .bonds) (t .entries) (b .hi) ≡ true)
+  in-moves b h = let (e, d, J, _) = F .ins b h in joins-moves b e d J
 
   -- connected bases share a place
   pub leads-share : {p q : ℕ} → Leads (s .bonds) p q → place s p ≡ place s q

@@ -11,7 +11,7 @@ use Rattle.causal.specs.Lists.{Mem}
 use Rattle.net.specs.Tests.{all, any}
 use Rattle.net.specs.Sorted.{ascends}
 use Rattle.net.specs.Net.{Arcs, Net, sameBond, lessBond, hasBond, noArcs, arcsOf}
-use Rattle.net.specs.Rules.{startPlacesRule, startBondRule, startBondsRule, entryRule, entriesRule, joins, bondsRule, keptRule, arcsBondsRule, arcsRule, netRule}
+use Rattle.net.specs.Rules.{startPlacesRule, startBondRule, startBondsRule, entryRule, entriesRule, joins, bondsRule, arcsBondsRule, arcsRule, netRule}
 use Rattle.net.specs.Marking.{Good}
 use Rattle.net.specs.declared.Bond.{Bond}
 use Rattle.net.specs.declared.Entry.{Entry}
@@ -51,15 +51,16 @@ arcs-fit net t h =
     let entries : entriesRule (net .places) (net .bases) (t .entries) ≡ true = and-l _ _ rest in
     let bonds : arcsBondsRule t ≡ true = and-r (entriesRule (net .places) (net .bases) (t .entries)) _ rest in
     let ins : bondsRule (λ (e : Entry). e .from) (t .entries) (t .inBonds) ≡ true = and-l _ _ bonds in
-    let outs : bondsRule (λ (e : Entry). e .to) (t .entries) (t .outBonds) ≡ true =
-    and-l _ (keptRule t) (and-r (bondsRule (λ (e : Entry). e .from) (t .entries) (t .inBonds)) _ bonds) in
+    let outs : bondsRule (λ (e : Entry). e .to) (t .entries) (t .outBonds) ≡ true = and-r (bondsRule (λ (e : Entry). e .from) (t .entries) (t .inBonds)) _ bonds in
     let each : (e : Entry) → Mem e (t .entries) → entryRule (net .places) (net .bases) e ≡ true = all-e (entryRule (net .places) (net .bases)) (t .entries) (and-l _ _ entries) in
     let places : (e : Entry) → Mem e (t .entries) → (ltb (e .from) (net .places) && ltb (e .to) (net .places)) ≡ true = λ e m. and-r (ltb (e .base) (net .bases)) _ (each e m) in
     record {
       bases = λ e m. ltb-true (e .base) (net .bases) (and-l _ _ (each e m));
       from = λ e m. ltb-true (e .from) (net .places) (and-l _ _ (places e m));
       to = λ e m. ltb-true (e .to) (net .places) (and-r (ltb (e .from) (net .places)) _ (places e m));
-      ins = λ b k. let (e, d, J, _) = joins-e (λ (x : Entry). x .from) t b (rule-joins (λ (x : Entry). x .from) (t .entries) (t .inBonds) ins b k) in (e, d, J);
+      ins = λ b k. joins-e (λ (x : Entry). x .from) t b (rule-joins (λ (x : Entry). x .from) (t .entries) (t .inBonds) ins b k);
+      lowIn = λ b k. ltb-true (b .lo) (b .hi) (and-l _ _ (rule-joins (λ (x : Entry). x .from) (t .entries) (t .inBonds) ins b k));
+      risingIn = ascends-all sameBond lessBond bond-order (t .inBonds) (and-l _ _ ins);
       outs = λ b k. joins-e (λ (x : Entry). x .to) t b (rule-joins (λ (x : Entry). x .to) (t .entries) (t .outBonds) outs b k);
       low = λ b k. ltb-true (b .lo) (b .hi) (and-l _ _ (rule-joins (λ (x : Entry). x .to) (t .entries) (t .outBonds) outs b k));
       rising = ascends-all sameBond lessBond bond-order (t .outBonds) (and-l _ _ outs);

@@ -56,7 +56,7 @@ pub record Case : Type 0 where
   pub given : Key
   pub marking : Marking
 
-abbrev line : ℕ → ℕ → List Bool → LiveLine
+abbrev pub line : ℕ → ℕ → List Bool → LiveLine
 line t k m = record { transition = transition t; key = key k; moved = m }
 
 -- the moved bases of M1 and M2 (0, 2 and 3), and of M4 (1)
@@ -139,8 +139,8 @@ marked =
     ∷ []
 
 -- Each case comes out as the table has it, answer and journal whole.
-abbrev pub AllHold : List Case → Type 0
-AllHold [] = Unit {0}
-AllHold (m ∷ ms) =
-    (act netB (play netB (m .before) (begin netB)) (m .command)
-    ≡ record { journal = record { marking = m .marking; lines = m .lines; given = m .given }; answer = m .answer }) × AllHold ms
+abbrev pub AllHold : Net → List Case → Type 0
+AllHold net [] = Unit {0}
+AllHold net (m ∷ ms) =
+    (act net (play net (m .before) (begin net)) (m .command)
+    ≡ record { journal = record { marking = m .marking; lines = m .lines; given = m .given }; answer = m .answer }) × AllHold net ms

@@ -63,7 +63,7 @@ abbrev pub rises : ℕ → List ℕ → Bool
 rises k [] = true
 rises k (n ∷ ns) = ltb k n && rises n ns
 
--- ---- The totals (01, firing and taking back, the last paragraph)
+-- ---- The totals (01, firing and taking back, the last paragraph; 02, T-07)
 
 -- the out-bonds that are no in-bonds, in number
 abbrev pub newBonds : Arcs → ℕ
@@ -73,8 +73,16 @@ abbrev pub allNewBonds : Net → List LiveLine → ℕ
 allNewBonds net [] = 0
 allNewBonds net (l ∷ ls) = newBonds (arcsOf net (l .transition)) + allNewBonds net ls
 
--- At every point of a session: each base is in one place of the net and bonded bases share a place (`Good`); the bonds
--- number those of the start and, for each live firing, its new ones.
+-- the in-bonds that are no out-bonds, in number
+abbrev pub brokenBonds : Arcs → ℕ
+brokenBonds t = count (λ (b : Bond). not (hasBond b (t .outBonds))) (t .inBonds)
+
+abbrev pub allBrokenBonds : Net → List LiveLine → ℕ
+allBrokenBonds net [] = 0
+allBrokenBonds net (l ∷ ls) = brokenBonds (arcsOf net (l .transition)) + allBrokenBonds net ls
+
+-- At every point of a session: each base is in one place of the net and bonded bases share a place (`Good`); the bonds,
+-- with those that live firings broke, number those of the start and, for each live firing, its new ones.
 pub record Totals (net : Net) (j : Journal) : Type 0 where
   pub good : Good net (j .marking)
-  pub bonds : length (j .marking .bonds) ≡ length (net .start .bonds) + allNewBonds net (j .lines)
+  pub bonds : length (j .marking .bonds) + allBrokenBonds net (j .lines) ≡ length (net .start .bonds) + allNewBonds net (j .lines)

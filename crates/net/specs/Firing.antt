@@ -1,4 +1,4 @@
--- Firing a transition and taking it back, on markings (01, firing and taking back; refusals 13 to 16).
+-- Firing a transition and taking it back, on markings (01, firing and taking back, with 02, T-07; refusals 13 to 16).
 -- Definitions only. A set of bases is a list of flags, one for each base; n is the number of bases.
 use mathlib.Core.Path.{_≡_}
 use mathlib.Core.Bool.{Bool, false, not, _&&_}
@@ -6,7 +6,7 @@ use mathlib.Core.List.{List, [], _∷_}
 use Prim.Native.Nat.{ℕ, _<_}
 use lib.Dec.{eqb}
 use lib.ListN.{getD, length}
-use Rattle.net.specs.Tests.{pick, any, keep, table}
+use Rattle.net.specs.Tests.{pick, all, any, keep, table}
 use Rattle.net.specs.Sorted.{puts}
 use Rattle.net.specs.Net.{Arcs, Marking, Net, sameBond, lessBond, hasBond, place, arcsOf}
 use Rattle.net.specs.Connection.{connected}
@@ -25,9 +25,18 @@ moves bs es p = any (λ (e : Entry). connected bs (e .base) p) es
 abbrev pub moved : ℕ → Arcs → Marking → List Bool
 moved n t s = table n (moves (s .bonds) (t .entries))
 
--- The bonds by which refusal 16 and the out-places see what is connected: those just before the firing.
+-- An in-bond that is no out-bond: the firing removes it, and taking back puts it in again (02, T-07).
+abbrev pub brokenBond : Arcs → Bond → Bool
+brokenBond t b = hasBond b (t .inBonds) && not (hasBond b (t .outBonds))
+
+-- every in-bond is an out-bond: the firing breaks nothing
+abbrev pub breaksNone : Arcs → Bool
+breaksNone t = all (λ (b : Bond). hasBond b (t .outBonds)) (t .inBonds)
+
+-- The bonds after the firing: the broken ones are removed, then the out-bonds added. Refusal 16 and the out-places go by
+-- what these connect (02, T-07).
 abbrev pub bondsSeen : Arcs → List Bond → List Bond
-bondsSeen t bs = bs
+bondsSeen t bs = puts sameBond lessBond (t .outBonds) (keep (λ (b : Bond). not (brokenBond t b)) bs)
 
 -- Refusal 13: an entry's base is not at its in-place.
 abbrev pub misplaced : Arcs → Marking → Bool
@@ -41,33 +50,39 @@ bondAbsent t s = any (λ (b : Bond). not (hasBond b (s .bonds))) (t .inBonds)
 abbrev pub bondPresent : Arcs → Marking → Bool
 bondPresent t s = any (λ (b : Bond). not (hasBond b (t .inBonds)) && hasBond b (s .bonds)) (t .outBonds)
 
--- Refusal 16: two entries with different out-places have connected bases.
+-- two entries with different out-places have bases that the bonds connect
+abbrev pub tornWith : Arcs → List Bond → Bool
+tornWith t bs = any (λ (e : Entry). any (λ (d : Entry). connected bs (e .base) (d .base) && not (eqb (e .to) (d .to))) (t .entries)) (t .entries)
+
+-- Refusal 16: so it is of the bonds after the firing.
 abbrev pub tornApart : Arcs → Marking → Bool
-tornApart t s = any
-    (λ (e : Entry). any (λ (d : Entry). connected (bondsSeen t (s .bonds)) (e .base) (d .base) && not (eqb (e .to) (d .to))) (t .entries))
-    (t .entries)
+tornApart t s = tornWith t (bondsSeen t (s .bonds))
 
 -- Where p goes: the place on `side` of an entry to which it is connected; its old place where there is none.
 abbrev pub sent : (Entry → ℕ) → List Bond → List Entry → ℕ → ℕ → ℕ
 sent side bs [] p old = old
 sent side bs (e ∷ es) p old = pick (connected bs (e .base) p) (side e) (sent side bs es p old)
 
--- Firing: each moved base goes to the out-place of the entries to which it is connected; the out-bonds are added.
+-- Firing: the bonds change, and each moved base goes to the out-place of the entries to which it is connected then.
 abbrev pub fire : ℕ → Arcs → Marking → Marking
 fire n t s = record {
   places = table n (λ p. sent (λ (e : Entry). e .to) (bondsSeen t (s .bonds)) (t .entries) p (place s p));
-  bonds = puts sameBond lessBond (t .outBonds) (s .bonds);
+  bonds = bondsSeen t (s .bonds);
 }
 
 -- An out-bond that is no in-bond: what the firing made, and taking back removes.
 abbrev pub newBond : Arcs → Bond → Bool
 newBond t b = hasBond b (t .outBonds) && not (hasBond b (t .inBonds))
 
--- Taking back the firing that moved m: its new bonds are removed, and then each base of m goes to the in-place of the
--- entries to which it is connected by the bonds that are left.
+-- The bonds after taking back: the new ones are removed, then the broken ones put in again (02, T-07).
+abbrev pub bondsBack : Arcs → List Bond → List Bond
+bondsBack t bs = puts sameBond lessBond (keep (brokenBond t) (t .inBonds)) (keep (λ (b : Bond). not (newBond t b)) bs)
+
+-- Taking back the firing that moved m: the bonds change back, and each base of m goes to the in-place of the entries to
+-- which it is connected then.
 abbrev pub undo : ℕ → Arcs → List Bool → Marking → Marking
 undo n t m s =
-    let bs = keep (λ (b : Bond). not (newBond t b)) (s .bonds) in
+    let bs = bondsBack t (s .bonds) in
     record {
       places = table n (λ p. pick (inSet m p) (sent (λ (e : Entry). e .from) bs (t .entries) p (place s p)) (place s p));
       bonds = bs;

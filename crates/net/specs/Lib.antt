@@ -13,3 +13,4 @@ pub mod Journal
 pub mod History
 pub mod Claims
 pub mod Cases
+pub mod Clutch

@@ -7,7 +7,7 @@ use lib.Dec.{eqb, ltb}
 use lib.ListN.{length}
 use Rattle.net.specs.Tests.{all, any}
 use Rattle.net.specs.Sorted.{ascends}
-use Rattle.net.specs.Net.{Arcs, Marking, Net, lessBond, hasBond, place}
+use Rattle.net.specs.Net.{Arcs, Marking, Net, lessBond, place}
 use Rattle.net.specs.declared.Bond.{Bond}
 use Rattle.net.specs.declared.Entry.{Entry}
 
@@ -38,14 +38,9 @@ joins side es b = ltb (b .lo) (b .hi)
 abbrev pub bondsRule : (Entry → ℕ) → List Entry → List Bond → Bool
 bondsRule side es bs = ascends lessBond bs && all (joins side es) bs
 
--- (9) Every in-coupling is an out-coupling too.
-abbrev pub keptRule : Arcs → Bool
-keptRule t = all (λ (b : Bond). hasBond b (t .outBonds)) (t .inBonds)
-
+-- An in-coupling need not be an out-coupling (02, T-07).
 abbrev pub arcsBondsRule : Arcs → Bool
-arcsBondsRule t =
-    bondsRule (λ (e : Entry). e .from) (t .entries) (t .inBonds)
-    && (bondsRule (λ (e : Entry). e .to) (t .entries) (t .outBonds) && keptRule t)
+arcsBondsRule t = bondsRule (λ (e : Entry). e .from) (t .entries) (t .inBonds) && bondsRule (λ (e : Entry). e .to) (t .entries) (t .outBonds)
 
 -- A transition: at least one entry (7), then 8, then 9.
 abbrev pub arcsRule : ℕ → ℕ → Arcs → Bool

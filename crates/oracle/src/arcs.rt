@@ -12,8 +12,9 @@ use crate::sets::MARKING;
 use crate::sets::OUTGOING;
 use crate::sets::POST;
 use crate::sets::PRE;
-use crate::sets::REST;
 use crate::sets::at;
+use crate::sets::bases_at;
+use crate::sets::bonds_at;
 use crate::sets::cell;
 use crate::sets::home_of;
 use crate::sets::join;
@@ -116,17 +117,25 @@ pub fn lay_labels(s: &mut [u64], sheet: &[u8], t: usize) {
     lay_label(s, sheet, t, OUTGOING, POST);
 }
 
-// M(x) - eff(t), where eff(t) = post(t) - pre(t); both have the same bases.
-fn rest_at(s: &[u64], i: usize) -> u64 {
-    let effect = less(word_at(s, POST, i % 65), word_at(s, PRE, i % 65));
-    less(word_at(s, MARKING, i), effect)
+// Of the labels laid last, those of the transition that was fired or taken back: the bases of bonds that it breaks (in pre(t), not in
+// post(t)), and the bases of bonds of pre(t) that it takes to different places.
+pub fn broken(s: &[u64]) -> u64 {
+    let mut all: u64 = 0;
+    let mut b: usize = 0;
+    while b < 64 {
+        all = all | less(bonds_at(s, PRE, 0, b), bonds_at(s, POST, 0, b));
+        b += 1;
+    }
+    all
 }
 
-pub fn lay_rest(s: &mut [u64]) {
-    let n = size(s);
-    let mut i: usize = 0;
-    while i < n {
-        put(s, at(REST, i), rest_at(s, i));
-        i += 1;
+pub fn parted(s: &[u64]) -> u64 {
+    let mut all: u64 = 0;
+    let mut b: usize = 0;
+    while b < 64 {
+        let together = bases_at(s, OUTGOING, home_of(s, OUTGOING, b));
+        all = all | less(bonds_at(s, PRE, 0, b), together);
+        b += 1;
     }
+    all
 }

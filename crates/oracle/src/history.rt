@@ -34,7 +34,7 @@ pub fn transition_at(s: &[u64], slot: usize) -> usize {
     (get(s, TRANSITIONS + slot % 256) % 64) as usize
 }
 
-// The bases that left their places by Definition 5: the components of the entries.
+// The bases that left their places by Definition 22: the components of the entries just before.
 pub fn moved_at(s: &[u64], slot: usize) -> u64 {
     get(s, MOVED + slot % 256)
 }

@@ -1,4 +1,5 @@
-// A second engine, written from document 004, chapter 3, Definitions 2 to 7 and 9 to 12, under document 01's reading. It
+// A second engine, written from document 004, chapter 3, Definitions 2, 6 and 9 to 12, and section 4.1, Definitions 21, 22 and 24,
+// under document 01's reading and document 02's, T-07 (a step may break bonds; 21(2) is not followed, 4(4) stays). It
 // shares no code with the other crates: programs compare the two. It is proved safe and ending for any bytes; that it
 // answers rightly is what the comparison is about. Its state is one lent slice of 30,917 words: tables (module sets), the
 // history (module history), a tally that is counted from the replies alone, and the highest key given, since no key is given
@@ -11,9 +12,11 @@ mod moving;
 pub mod reader;
 pub mod sets;
 
+pub use arcs::broken;
 use arcs::fill;
 use arcs::lay_labels;
 use arcs::lay_start;
+pub use arcs::parted;
 use forward::hindrance;
 use forward::lacking;
 use forward::used;
@@ -84,14 +87,14 @@ pub fn begin(sheet: &[u8], s: &mut [u64], tally: u64) {
     lay_start(s, sheet);
 }
 
-// Definition 4 for a transition of the sheet: the first of 13 to 16 that holds; 0 where it is forward-enabled. Its labels are
+// Definition 21 for a transition of the sheet: the first of 13 to 16 that holds; 0 where it is forward-enabled. Its labels are
 // laid.
 pub fn hindered(sheet: &[u8], s: &mut [u64], t: usize) -> u64 {
     lay_labels(s, sheet, t);
     hindrance(s)
 }
 
-// Kind 1: 12, 13 to 16, 17, 18, then the firing by Definitions 5 and 10, with a key above every one given before.
+// Kind 1: 12, 13 to 16, 17, 18, then the firing by Definitions 22 and 10, with a key above every one given before.
 fn fire(sheet: &[u8], s: &mut [u64], t: usize) -> u64 {
     if count(sheet, 3) <= t {
         return refused(12);
@@ -115,7 +118,7 @@ fn fire(sheet: &[u8], s: &mut [u64], t: usize) -> u64 {
     reply(FIRED, last + 1)
 }
 
-// The reversal of the occurrence of a key, by Definitions 7 and 12. A check of 11(1) comes first, for kind 3.
+// The reversal of the occurrence of a key, by Definitions 24 and 12 (as 26 has it). A check of 11(1) comes first, for kind 3.
 fn undo(sheet: &[u8], s: &mut [u64], key: u64, causal: bool) -> u64 {
     let slot = slot_of(s, key);
     lay_labels(s, sheet, transition_at(s, slot));
@@ -127,7 +130,7 @@ fn undo(sheet: &[u8], s: &mut [u64], key: u64, causal: bool) -> u64 {
     reply(UNDONE, key)
 }
 
-// Kind 2, Definition 6: the highest key of all.
+// Kind 2, Definitions 6 and 23: the highest key of all.
 fn undo_last(sheet: &[u8], s: &mut [u64]) -> u64 {
     let key = highest(s);
     if key == 0 {
@@ -136,7 +139,7 @@ fn undo_last(sheet: &[u8], s: &mut [u64]) -> u64 {
     undo(sheet, s, key, false)
 }
 
-// Kind 3, Definition 11.
+// Kind 3, Definitions 11 and 25.
 fn undo_key(sheet: &[u8], s: &mut [u64], key: u64) -> u64 {
     let number = undo_hindered(s, key);
     if number != 0 {

@@ -4,7 +4,8 @@
 // key given. A table has 65 words for each of 64 places: row 0 is the set of bases there, row 1 + b the set of bases that are
 // bonded to b there.
 
-// The marking M; the labels F(x, t) and F(t, x) of all places x; the marking that is being made; M(x) - eff(t).
+// The marking M; the labels F(x, t) and F(t, x) of all places x; the marking that is being made; the marking with one side's
+// labels off and the other's on, in which con is asked.
 pub const MARKING: usize = 0;
 
 pub const INCOMING: usize = 1;
@@ -13,7 +14,7 @@ pub const OUTGOING: usize = 2;
 
 pub const NEW: usize = 3;
 
-pub const REST: usize = 4;
+pub const CHANGED: usize = 4;
 
 // The unions pre(t) and post(t), in one place's 65 words.
 pub const PRE: usize = 5;

@@ -1,5 +1,5 @@
--- What the sheet's rules give of a transition's arcs, beside `Fit`: one entry for each base, and an in-bond's entries have
--- one in-place. Assumes nothing.
+-- What the sheet's rules give of a transition's arcs, beside `Fit`: one entry for each base, and one entry at least.
+-- Assumes nothing.
 use mathlib.Core.Path.{_≡_, refl, ap}
 use mathlib.Core.Logic.{_⊎_, inl, inr}
 use mathlib.Core.Bool.{Bool, true, _&&_}
@@ -12,15 +12,11 @@ use borrow.Author.Tests.{ltb-true}
 use Rattle.causal.specs.Lists.{Mem}
 use Rattle.net.specs.Tests.{all}
 use Rattle.net.specs.Sorted.{ascends}
-use Rattle.net.specs.Net.{Arcs, Net, hasBond, noArcs, arcsOf}
-use Rattle.net.specs.Rules.{startPlacesRule, startBondsRule, entryRule, entriesRule, bondsRule, keptRule, arcsBondsRule, arcsRule, netRule}
-use Rattle.net.specs.declared.Bond.{Bond}
+use Rattle.net.specs.Net.{Arcs, Net, noArcs, arcsOf}
+use Rattle.net.specs.Rules.{startPlacesRule, startBondsRule, entryRule, entriesRule, arcsBondsRule, arcsRule, netRule}
 use Rattle.net.specs.declared.Entry.{Entry}
 use Rattle.net.specs.declared.Transition.{Transition}
-use Rattle.net.proofs.Tests.{and-l, and-r, all-e, all-at}
-use Rattle.net.proofs.Bonds.{has-mem}
-use Rattle.net.proofs.Moves.{Joins}
-use Rattle.net.proofs.Rules.{joins-e, rule-joins}
+use Rattle.net.proofs.Tests.{and-l, and-r, all-at}
 
 -- ---- one entry for each base
 
@@ -53,32 +49,12 @@ one-entry (x ∷ es) c e d (inr m) (inr n) q = one-entry es (c .1) e d m n q
 
 -- ---- a transition
 
--- What the rules give, beside `Fit`.
-pub record Exact (t : Arcs) : Type 0 where
-  pub one : (e d : Entry) → Mem e (t .entries) → Mem d (t .entries) → e .base ≡ d .base → e ≡ d
-  pub ins : (b : Bond) → hasBond b (t .inBonds) ≡ true → (e : Entry) × (d : Entry) × Joins t b e d × (e .from ≡ d .from)
-  pub low : (b : Bond) → hasBond b (t .inBonds) ≡ true → b .lo < b .hi
-
 module _ (net : Net) (t : Arcs) (h : arcsRule (net .places) (net .bases) t ≡ true) where
-  rest : (entriesRule (net .places) (net .bases) (t .entries) && arcsBondsRule t) ≡ true
-  rest = and-r (ltb 0 (length (t .entries))) _ h
-
-  in-rule : bondsRule (λ (e : Entry). e .from) (t .entries) (t .inBonds) ≡ true
-  in-rule = and-l _ _ (and-r (entriesRule (net .places) (net .bases) (t .entries)) (arcsBondsRule t) rest)
-
-  arcs-exact : Exact t
-  arcs-exact =
+  arcs-one : (e d : Entry) → Mem e (t .entries) → Mem d (t .entries) → e .base ≡ d .base → e ≡ d
+  arcs-one =
+      let rest : (entriesRule (net .places) (net .bases) (t .entries) && arcsBondsRule t) ≡ true = and-r (ltb 0 (length (t .entries))) _ h in
       let order : ascends baseBelow (t .entries) ≡ true = and-r (all (entryRule (net .places) (net .bases)) (t .entries)) _ (and-l _ (arcsBondsRule t) rest) in
-      record {
-        one = one-entry (t .entries) (climbs (t .entries) order);
-        ins = λ b k. joins-e (λ (x : Entry). x .from) t b (rule-joins (λ (x : Entry). x .from) (t .entries) (t .inBonds) in-rule b k);
-        low = λ b k. ltb-true (b .lo) (b .hi) (and-l _ _ (rule-joins (λ (x : Entry). x .from) (t .entries) (t .inBonds) in-rule b k));
-      }
-
-  arcs-kept : (b : Bond) → hasBond b (t .inBonds) ≡ true → hasBond b (t .outBonds) ≡ true
-  arcs-kept b k = all-e (λ (c : Bond). hasBond c (t .outBonds)) (t .inBonds)
-      (and-r (bondsRule (λ (e : Entry). e .to) (t .entries) (t .outBonds)) (keptRule t)
-      (and-r (bondsRule (λ (e : Entry). e .from) (t .entries) (t .inBonds)) _ (and-r (entriesRule (net .places) (net .bases) (t .entries)) (arcsBondsRule t) rest))) b (has-mem (t .inBonds) b k)
+      one-entry (t .entries) (climbs (t .entries) order)
 
   arcs-some : 0 < length (t .entries)
   arcs-some = ltb-true 0 (length (t .entries)) (and-l _ _ h)
@@ -90,11 +66,9 @@ module _ (net : Net) (ok : netRule net ≡ true) where
   rule-of t h = all-at (arcsRule (net .places) (net .bases)) (net .transitions) noArcs (t .0)
       (and-r (startBondsRule (net .bases) (net .start)) _ (and-r (startPlacesRule (net .places) (net .bases) (net .start .places)) _ ok)) h
 
-  pub exact : (t : Transition) → t .0 < length (net .transitions) → Exact (arcsOf net t)
-  exact t h = arcs-exact net (arcsOf net t) (rule-of t h)
-
-  pub kept : (t : Transition) → t .0 < length (net .transitions) → (b : Bond) → hasBond b (arcsOf net t .inBonds) ≡ true → hasBond b (arcsOf net t .outBonds) ≡ true
-  kept t h = arcs-kept net (arcsOf net t) (rule-of t h)
+  -- entries of one base are one
+  pub one-each : (t : Transition) → t .0 < length (net .transitions) → (e d : Entry) → Mem e (arcsOf net t .entries) → Mem d (arcsOf net t .entries) → e .base ≡ d .base → e ≡ d
+  one-each t h = arcs-one net (arcsOf net t) (rule-of t h)
 
   -- a transition has an entry
   pub some-entry : (t : Transition) → t .0 < length (net .transitions) → (e : Entry) × Mem e (arcsOf net t .entries)

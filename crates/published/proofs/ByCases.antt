@@ -1,5 +1,6 @@
--- Definitions 5 and 7 as they stand here are the chapter's cases; at a place that is both incoming and outgoing, one after the
--- other. For every net and marking. Of a sheet's net it is decided which places are incoming and outgoing. Assumes nothing.
+-- Definitions 5, 7, 22 and 24 as they stand here are the source's cases; at a place that is both incoming and outgoing, one
+-- after the other. For every net and marking. Of a sheet's net it is decided which places are incoming and outgoing.
+-- Assumes nothing.
 use mathlib.Core.Path.{refl}
 use mathlib.Core.Logic.{_⊎_, inl, inr}
 use mathlib.Core.List.{List}
@@ -13,13 +14,36 @@ use Rattle.net.specs.declared.Bond.{Bond}
 use Rattle.net.specs.declared.Entry.{Entry}
 use Rattle.net.specs.declared.Transition.{Transition}
 use Rattle.net.proofs.Tests.{any-e, any-no}
-use Rattle.published.specs.Sets.{Item, base, minus, union}
+use Rattle.published.specs.Sets.{Item, Items, base, minus, union}
 use Rattle.published.specs.Nets.{PetriNet, Incoming, Outgoing}
 use Rattle.published.specs.States.{Marks}
 use Rattle.published.specs.Forward.{leaves, comes, firedMarks}
 use Rattle.published.specs.Backtracking.{leavesBack, comesBack, reversedMarks}
+use Rattle.published.specs.Uncoupling.{comes22, comes24}
 use Rattle.published.specs.Sheets.{labelAt, petriNet, marksOf}
+use Rattle.published.specs.Uncouples.{StepByCases, Fired22ByCases, Reversed24ByCases, UncouplesByCases}
 use Rattle.published.specs.Claims.{FiredByCases, ReversedByCases, ByCases}
+
+-- Definitions 22 and 24: what goes goes by an arc from the place, and what comes by one to it
+step-by-cases : (T P : Type 0) (had out came : Items) → ((i : Item) → out i → T) → ((i : Item) → came i → P) → StepByCases T P had out came (union (minus had out) came)
+step-by-cases T P had out came off onto = record {
+  taken = λ none i. ((λ h. only none i h), λ h. inl h);
+  put = λ none i. (whole i, some none i);
+  neither = λ none none′ i. ((λ h. only none′ i h .0), λ h. some none i (inl h));
+  both = λ _ _ i. ((λ h. h), λ h. h);
+}
+  where
+    only : (P → ⊥) → (i : Item) → union (minus had out) came i → minus had out i
+    only none i (inl h) = h
+    only none i (inr h) = absurd (none (onto i h))
+
+    whole : (i : Item) → union (minus had out) came i → union had came i
+    whole i (inl (h, _)) = inl h
+    whole i (inr h) = inr h
+
+    some : (T → ⊥) → (i : Item) → union had came i → union (minus had out) came i
+    some none i (inl h) = inl (h, λ k. none (off i k))
+    some none i (inr h) = inr h
 
 module _ (N : PetriNet) (M : Marks) (t : Transition) (x : ℕ) (p : N .isPlace x) where
   none-taken : (Incoming N t x → ⊥) → (i : Item) → N .takes x t i → ⊥
@@ -69,6 +93,12 @@ module _ (N : PetriNet) (M : Marks) (t : Transition) (x : ℕ) (p : N .isPlace x
     both = λ _ _ i. ((λ h. h), λ h. h);
   }
 
+  fired22-by-cases : Fired22ByCases N M t x
+  fired22-by-cases = step-by-cases (Incoming N t x) (Outgoing N t x) (M x) (leaves N M t x) (comes22 N M t x) (λ i (a, k, _). (p, base a, k)) (λ i (a, _, k, _, _). (p, base a, k))
+
+  reversed24-by-cases : Reversed24ByCases N M t x
+  reversed24-by-cases = step-by-cases (Outgoing N t x) (Incoming N t x) (M x) (leavesBack N M t x) (comes24 N M t x) (λ i (a, k, _). (p, base a, k)) (λ i (_, a, _, k, _, _). (p, base a, k))
+
 -- ---- the net of a sheet
 
 -- whether a place has something on its arc
@@ -89,4 +119,10 @@ by-cases net = record {
   decided = λ t x p. (is-incoming net t x p, is-outgoing net t x p);
   fired = λ s t x p. fired-by-cases (petriNet net) (marksOf net s) t x p;
   reversed = λ s t x p. reversed-by-cases (petriNet net) (marksOf net s) t x p;
+}
+
+pub uncouples-by-cases : (net : Net) → UncouplesByCases net
+uncouples-by-cases net = record {
+  fired = λ s t x p. fired22-by-cases (petriNet net) (marksOf net s) t x p;
+  reversed = λ s t x p. reversed24-by-cases (petriNet net) (marksOf net s) t x p;
 }

@@ -1,25 +1,27 @@
--- 19 and 20 refuse exactly where Definition 11 does; kind 2's key is Definition 6's; and taking back gives Definition 7's
--- marking. Assumes that the net meets the sheet's rules, and a journal that commands keep.
+-- 19 and 20 refuse exactly where Definition 11 does; kind 2's key is Definition 6's; and taking back gives Definition 24's marking,
+-- and Definition 7's where the firing broke no bond. Assumes that the net meets the sheet's rules, and a journal that commands keep.
 use mathlib.Core.Path.{_≡_, refl, sym, _∙_, ap, subst}
 use mathlib.Core.Logic.{_⊎_, inl, inr}
-use mathlib.Core.Bool.{Bool, true, false}
+use mathlib.Core.Bool.{Bool, true, false, not, _&&_}
 use mathlib.Core.List.{List, _∷_, _++_}
 use Prim.Native.Nat.{ℕ, _<_, _≤_}
 use native.Mathlib.Omega.{arith}
+use lib.ListN.{length}
 use Rattle.causal.specs.Lists.{Mem}
 use Rattle.causal.specs.Reorderings.{Dependent}
 use Rattle.causal.proofs.Tests.{both}
 use Rattle.net.specs.Net.{Marking, Net, hasBond, place, arcsOf}
 use Rattle.net.specs.Rules.{netRule}
 use Rattle.net.specs.Connection.{here}
-use Rattle.net.specs.Firing.{inSet, moves, fire, undo}
+use Rattle.net.specs.Firing.{inSet, brokenBond, fire}
 use Rattle.net.specs.Checks.{clear}
 use Rattle.net.specs.Journal.{LiveLine, Journal, highestLive, isLive, lineOf, builtOn, undoChecks, undoReply}
+use Rattle.net.specs.declared.Bond.{Bond}
 use Rattle.net.specs.declared.Entry.{Entry}
 use Rattle.net.specs.declared.Key.{Key}
 use Rattle.net.specs.declared.Transition.{Transition}
 use Rattle.net.proofs.Tests.{fails, or-l}
-use Rattle.net.proofs.Moves.{Fit, view, seen-place, seen-first, entry-moves, mem-moved}
+use Rattle.net.proofs.Moves.{Fit, view, seen-place, seen-first, entry-moves}
 use Rattle.net.proofs.Fire.{has-fire}
 use Rattle.net.proofs.Rules.{fits}
 use Rattle.net.proofs.Keys.{mem-highest, up-after, one-line, line-live, live-split, live-line, independent-later, builtOn-after}
@@ -28,11 +30,15 @@ use Rattle.published.specs.Sets.{Iff, Item, base, bond, Max}
 use Rattle.published.specs.States.{Somewhere}
 use Rattle.published.specs.Backtracking.{BacktrackEnabled, leavesBack, reversedMarks}
 use Rattle.published.specs.Causal.{Order, CausalEnabled}
+use Rattle.published.specs.Uncoupling.{reversed24}
 use Rattle.published.specs.Sheets.{anchor, Allowed, Present, petriNet, marksOf, historyOf}
 use Rattle.published.proofs.Firing.{goes-to}
-use Rattle.published.proofs.Reversal.{moved-leave-back, leave-back-moved, reversed-to, reversed-from}
+use Rattle.published.proofs.TakenBack.{Untouched, in-flags, moved-leave-back, leave-back-moved}
+use Rattle.published.proofs.Reversal.{reversed-iff}
+use Rattle.published.proofs.Reversal24.{reversed24-iff}
 use Rattle.published.proofs.Lines.{highest-is, builtOn-e, builtOn-i}
-use Rattle.published.proofs.Sessions.{good-now, line-listed, Untouched, untouched}
+use Rattle.published.proofs.Sessions.{good-now, line-listed, untouched}
+use Rattle.published.proofs.Common.{entry-common, successors}
 use Rattle.published.proofs.Keys.{one-max, undo-live, undo-free, undo-mem, undo-key, undo-latest}
 use Rattle.published.proofs.Order.{Agrees}
 
@@ -40,40 +46,39 @@ module _ (net : Net) (ok : netRule net ≡ true) (j : Journal) (H : Held net j) 
   -- ---- a firing that 19 and 20 do not refuse
 
   module _ (k : Key) (e : clear (undoChecks j k) ≡ true) where
-    left-alone : Untouched net ok j (lineOf k (j .lines))
+    pub left-alone : Untouched net (lineOf k (j .lines) .transition) (lineOf k (j .lines) .moved) (j .marking)
     left-alone =
         let (xs, ys, q, r) = live-split k (j .lines) (undo-live net ok j H k e) in
         go (lineOf k (j .lines)) xs ys q (undo-free net ok j H k e)
       where
-        go : (h : LiveLine) (xs ys : List LiveLine) → j .lines ≡ xs ++ h ∷ ys → builtOn (j .lines) h ≡ false → Untouched net ok j h
-        go h xs ys q d = untouched net ok j H h xs ys q (independent-later h ys (up-after h xs ys (rw q at (H .up))) (builtOn-after h xs ys (rw q at d)))
+        go : (h : LiveLine) (xs ys : List LiveLine) → j .lines ≡ xs ++ h ∷ ys → builtOn (j .lines) h ≡ false → Untouched net (h .transition) (h .moved) (j .marking)
+        go h xs ys q d = untouched net ok (j .lines) (j .marking) (H .run) h xs ys q (independent-later h ys (up-after h xs ys (rw q at (H .up))) (builtOn-after h xs ys (rw q at d)))
+
+    pub undo-listed : lineOf k (j .lines) .transition .0 < length (net .transitions)
+    undo-listed = left-alone .fires .listed
 
     -- Definition 7's marking
-    pub reversed-marks : (x : ℕ) (i : Item) → Iff (marksOf net (undoReply net j k .journal .marking) x i) (reversedMarks (petriNet net) (marksOf net (j .marking)) (lineOf k (j .lines) .transition) x i)
-    reversed-marks x i =
-        let U = left-alone in
-        let f = U .fires in
-        let t : Transition = lineOf k (j .lines) .transition in
-        subst (λ (m : List Bool). Iff (marksOf net (undo (net .bases) (arcsOf net t) m (j .marking)) x i) (reversedMarks (petriNet net) (marksOf net (j .marking)) t x i)) (sym (f .moves-m)) (
-          reversed-to net ok (U .before) (U .good) t (f .listed) (f .placed) (f .present) (f .absent) (f .together) (j .marking) (good-now net ok j H) (U .like) x i,
-          reversed-from net ok (U .before) (U .good) t (f .listed) (f .placed) (f .present) (f .absent) (f .together) (j .marking) (good-now net ok j H) (U .like) x i,
-        )
+    pub reversed-marks : ((β : Bond) → brokenBond (arcsOf net (lineOf k (j .lines) .transition)) β ≡ false)
+        → (x : ℕ) (i : Item) → Iff (marksOf net (undoReply net j k .journal .marking) x i) (reversedMarks (petriNet net) (marksOf net (j .marking)) (lineOf k (j .lines) .transition) x i)
+    reversed-marks unbroken = reversed-iff net ok (lineOf k (j .lines) .transition) (lineOf k (j .lines) .moved) (j .marking) (good-now net ok j H) left-alone unbroken
 
-    -- the bases that leave by Definition 7
+    -- Definition 24's
+    pub reversed24-marks : (x : ℕ) (i : Item) → Iff (marksOf net (undoReply net j k .journal .marking) x i) (reversed24 (petriNet net) (marksOf net (j .marking)) (lineOf k (j .lines) .transition) x i)
+    reversed24-marks = reversed24-iff net ok (lineOf k (j .lines) .transition) (lineOf k (j .lines) .moved) (j .marking) (good-now net ok j H) left-alone
+
+    -- the bases that leave by both
     pub moved-back : (b : ℕ) → Iff (inSet (lineOf k (j .lines) .moved) b ≡ true) (Somewhere (leavesBack (petriNet net) (marksOf net (j .marking)) (lineOf k (j .lines) .transition)) b)
     moved-back b =
-        let U = left-alone in
-        let f = U .fires in
         let t : Transition = lineOf k (j .lines) .transition in
-        let its : inSet (lineOf k (j .lines) .moved) b ≡ moves (U .before .bonds) (arcsOf net t .entries) b =
-        ap (λ (m : List Bool). inSet m b) (f .moves-m) ∙ mem-moved net (U .before) (U .good) (arcsOf net t) (fits net ok t (f .listed)) b in (
-          (λ h. moved-leave-back net ok (U .before) (U .good) t (f .listed) (f .placed) (f .present) (f .absent) (f .together) (j .marking) (good-now net ok j H) (U .like) b (sym its ∙ h)),
-          (λ h. its ∙ leave-back-moved net ok (U .before) (U .good) t (f .listed) (f .placed) (f .present) (f .absent) (f .together) (j .marking) (good-now net ok j H) (U .like) b h),
+        let m : List Bool = lineOf k (j .lines) .moved in
+        let its = in-flags net ok t m (j .marking) (good-now net ok j H) left-alone b in (
+          (λ h. moved-leave-back net ok t m (j .marking) (good-now net ok j H) left-alone b (sym its ∙ h)),
+          (λ h. its ∙ leave-back-moved net ok t m (j .marking) (good-now net ok j H) left-alone b h),
         )
 
   -- ---- all that a firing put is where it put it, while its bases are left alone
 
-  module _ (l : LiveLine) (U : Untouched net ok j l) where
+  module _ (l : LiveLine) (U : Untouched net (l .transition) (l .moved) (j .marking)) where
     fit : Fit net (arcsOf net (l .transition))
     fit = fits net ok (l .transition) (U .fires .listed)
 
@@ -88,7 +93,7 @@ module _ (net : Net) (ok : netRule net ≡ true) (j : Journal) (H : Held net j) 
     there (bond β) d m u e =
         let v : view after (β .lo) ≡ view (j .marking) (β .lo) = subst (λ (p : ℕ). view after p ≡ view (j .marking) p) e (entry-like d m) in
         sym (seen-first after (j .marking) (β .lo) v (β .hi)) ∙ has-fire net (U .before) (U .good) (arcsOf net (l .transition)) fit β
-        ∙ or-l (hasBond β (arcsOf net (l .transition) .outBonds)) (hasBond β (U .before .bonds)) u
+        ∙ or-l (hasBond β (arcsOf net (l .transition) .outBonds)) (hasBond β (U .before .bonds) && not (brokenBond (arcsOf net (l .transition)) β)) u
 
     all-there : (x : ℕ) (i : Item) → petriNet net .puts (l .transition) x i → marksOf net (j .marking) x i
     all-there x i (u, d, m, b, q) = (
@@ -99,7 +104,7 @@ module _ (net : Net) (ok : netRule net ≡ true) (j : Journal) (H : Held net j) 
 
   -- ---- Definition 11
 
-  module _ (R : Order) (A : Agrees j R) where
+  module _ (R : Order) (A : Agrees net j R) where
     enabled-undo : (k : Key) (t : Transition) → CausalEnabled (petriNet net) (marksOf net (j .marking)) (historyOf j) R t → Max (historyOf j t) (k .0)
         → (clear (undoChecks j k) ≡ true) × (lineOf k (j .lines) .transition ≡ t)
     enabled-undo k t D ((l, m, p, q), top) =
@@ -111,8 +116,9 @@ module _ (net : Net) (ok : netRule net ≡ true) (j : Journal) (H : Held net j) 
       where
         no-later : (h : LiveLine) × Mem h (j .lines) × (l .key .0 < h .key .0) × Dependent inSet (l .moved) (h .moved) → ⊥
         no-later (h, n, lt, c) =
-            D .unused (k .0) ((l, m, p, q), top) (h .transition) (h .key .0) (h, n, refl, refl)
-            (A t (k .0) (h .transition) (h .key .0) .1 (l, h, m, n, p, q, refl, refl, rw (← q) lt, c))
+            let (u, i, w) = successors net ok j (H .run) (H .up) t (k .0) .1 (h .transition, h .key .0, (l, h, m, n, p, q, refl, refl, rw (← q) lt, c)) in
+            let (_, g, _, o, _, _, p′, q′, _, _) = w in
+            D .unused (k .0) ((l, m, p, q), top) u i (g, o, p′, q′) (A t (k .0) u i .1 w)
 
     undo-enabled : (k : Key) → clear (undoChecks j k) ≡ true → CausalEnabled (petriNet net) (marksOf net (j .marking)) (historyOf j) R (lineOf k (j .lines) .transition)
     undo-enabled k e = record {
@@ -123,7 +129,7 @@ module _ (net : Net) (ok : netRule net ≡ true) (j : Journal) (H : Held net j) 
       where
         no-later : (n : ℕ) → Max (historyOf j (lineOf k (j .lines) .transition)) n → (u : Transition) (i : ℕ) → R (lineOf k (j .lines) .transition) n u i → ⊥
         no-later n x u i r =
-            let (l, h, a, b, p, q, p′, q′, lt, c) = A (lineOf k (j .lines) .transition) n u i .0 r in
+            let (l, h, a, b, p, q, p′, q′, lt, c) = entry-common net ok j (H .run) (H .up) (lineOf k (j .lines) .transition) n u i (A (lineOf k (j .lines) .transition) n u i .0 r) in
             let d : n ≡ k .0 = one-max (historyOf j (lineOf k (j .lines) .transition)) n (k .0) x (undo-latest net ok j H k e) in
             let same : l ≡ lineOf k (j .lines) = one-line (j .lines) (H .up) l (lineOf k (j .lines)) a (undo-mem net ok j H k e) (q ∙ d ∙ sym (undo-key net ok j H k e)) in
             both (builtOn (j .lines) (lineOf k (j .lines))) (subst (λ (y : LiveLine). builtOn (j .lines) y ≡ true) same (builtOn-i (j .lines) l h b (rw (q, q′) lt) c)) (undo-free net ok j H k e)

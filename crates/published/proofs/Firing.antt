@@ -1,8 +1,8 @@
--- A firing that none of 12 to 16 refuses gives exactly the marking of Definition 5, bases and bonds, place by place, and moves
--- the bases that leave by it. Assumes that the net meets the sheet's rules, and a good marking.
+-- A firing that none of 12 to 16 refuses moves the bases that leave by Definitions 5 and 22, and, where it breaks no bond, gives
+-- exactly the marking of Definition 5. Assumes that the net meets the sheet's rules, and a good marking.
 use mathlib.Core.Path.{_≡_, refl, sym, _∙_}
 use mathlib.Core.Logic.{_⊎_, inl, inr}
-use mathlib.Core.Bool.{true, false}
+use mathlib.Core.Bool.{true, false, not, _&&_}
 use mathlib.Core.List.{List}
 use Prim.Native.Nat.{ℕ, _<_}
 use lib.ListN.{length}
@@ -12,16 +12,18 @@ use Rattle.net.specs.Net.{Arcs, Marking, Net, hasBond, place, arcsOf}
 use Rattle.net.specs.Rules.{netRule}
 use Rattle.net.specs.Connection.{Leads, here, connected}
 use Rattle.net.specs.Marking.{Good}
-use Rattle.net.specs.Firing.{inSet, moves, moved, misplaced, tornApart, fire}
+use Rattle.net.specs.Firing.{inSet, moves, moved, brokenBond, bondsSeen, misplaced, tornApart, fire}
 use Rattle.net.specs.Checks.{clear}
 use Rattle.net.specs.Journal.{enableChecks}
 use Rattle.net.specs.declared.Bond.{Bond}
 use Rattle.net.specs.declared.Entry.{Entry}
 use Rattle.net.specs.declared.Transition.{Transition}
-use Rattle.net.proofs.Tests.{or-e, or-l, or-r, any-e, any-i}
-use Rattle.net.proofs.Connection.{leads-trans, leads-sym, connected-leads, leads-connected}
-use Rattle.net.proofs.Moves.{sent-none, sent-is, Fit, mem-moved}
-use Rattle.net.proofs.Fire.{place-fire, has-fire, one-way}
+use Rattle.net.proofs.Tests.{or-l, or-r, any-e, any-i}
+use Rattle.net.proofs.Connection.{connected-leads, leads-connected}
+use Rattle.net.proofs.Moves.{sent-none, Fit, mem-moved}
+use Rattle.net.proofs.Change.{after-e, none-after}
+use Rattle.net.proofs.Uncoupling.{kept-connected}
+use Rattle.net.proofs.Fire.{place-fire, has-fire, fire-good, entry-goes}
 use Rattle.net.proofs.Rules.{fits}
 use Rattle.net.proofs.Journal.{enabled-fires}
 use Rattle.published.specs.Sets.{Iff, Item, base, bond}
@@ -44,19 +46,22 @@ moves-led t bs p h =
 
 module _ (net : Net) (s : Marking) (G : Good net s) (a : Arcs) (F : Fit net a) where
   pub stays-put : (p : ℕ) → moves (s .bonds) (a .entries) p ≡ false → place (fire (net .bases) a s) p ≡ place s p
-  stays-put p h = place-fire net s G a F p ∙ sent-none (λ (e : Entry). e .to) (s .bonds) (a .entries) p (place s p) h
+  stays-put p h = place-fire net s G a F p ∙ sent-none (λ (e : Entry). e .to) (bondsSeen a (s .bonds)) (a .entries) p (place s p) (none-after net s G a F p h)
 
-  pub goes-to : tornApart a s ≡ false → (e : Entry) → Mem e (a .entries) → (p : ℕ) → Leads (s .bonds) (e .base) p → place (fire (net .bases) a s) p ≡ e .to
-  goes-to r16 e m p l = place-fire net s G a F p ∙ sent-is (λ (d : Entry). d .to) (s .bonds) (a .entries) p (place s p) (e .to) (led-moves a (s .bonds) e m p l)
-      (λ d n c. one-way net s G a F r16 d e n m (leads-connected (s .bonds) (d .base) (e .base) (leads-trans (connected-leads (s .bonds) (d .base) p c) (leads-sym l))))
+  -- what the bonds after the firing lead to from an entry's base goes to the entry's out-place
+  pub goes-to : tornApart a s ≡ false → (e : Entry) → Mem e (a .entries) → (p : ℕ) → Leads (bondsSeen a (s .bonds)) (e .base) p → place (fire (net .bases) a s) p ≡ e .to
+  goes-to r16 e m p l = sym (leads-place net (fire (net .bases) a s) (fire-good net s G a F) l) ∙ entry-goes net s G a F r16 e m
+
+-- ---- Definition 5, for a transition that breaks nothing
 
 module _ (net : Net) (ok : netRule net ≡ true) (s : Marking) (G : Good net s) (t : Transition) (h : t .0 < length (net .transitions))
-    (r13 : misplaced (arcsOf net t) s ≡ false) (r16 : tornApart (arcsOf net t) s ≡ false) where
+    (r13 : misplaced (arcsOf net t) s ≡ false) (r16 : tornApart (arcsOf net t) s ≡ false) (unbroken : (β : Bond) → brokenBond (arcsOf net t) β ≡ false) where
   abbrev z : Marking
   z = fire (net .bases) (arcsOf net t) s
 
   goes : (e : Entry) → Mem e (arcsOf net t .entries) → (p : ℕ) → Leads (s .bonds) (e .base) p → place z p ≡ e .to
-  goes = goes-to net s G (arcsOf net t) (fits net ok t h) r16
+  goes e m p l = goes-to net s G (arcsOf net t) (fits net ok t h) r16 e m p
+      (connected-leads (z .bonds) (e .base) p (kept-connected (arcsOf net t) unbroken (s .bonds) (e .base) p (leads-connected (s .bonds) (e .base) p l)))
 
   stays : (p : ℕ) → moves (s .bonds) (arcsOf net t .entries) p ≡ false → place z p ≡ place s p
   stays = stays-put net s G (arcsOf net t) (fits net ok t h)
@@ -65,11 +70,11 @@ module _ (net : Net) (ok : netRule net ≡ true) (s : Marking) (G : Good net s) 
 
   still-there : (i : Item) → Present net s i → Present net z i
   still-there (base a) u = u
-  still-there (bond β) u = has-fire net s G (arcsOf net t) (fits net ok t h) β ∙ or-r (hasBond β (arcsOf net t .outBonds)) (hasBond β (s .bonds)) u
+  still-there (bond β) u = has-fire net s G (arcsOf net t) (fits net ok t h) β ∙ or-r (hasBond β (arcsOf net t .outBonds)) (hasBond β (s .bonds) && not (brokenBond (arcsOf net t) β)) (rw (u, unbroken β))
 
   put-there : (x : ℕ) (i : Item) → petriNet net .puts t x i → Present net z i
   put-there x (base a) (u, e, m, b, q) = rw (← b) (fits net ok t h .bases e m)
-  put-there x (bond β) (u, e, m, b, q) = has-fire net s G (arcsOf net t) (fits net ok t h) β ∙ or-l (hasBond β (arcsOf net t .outBonds)) (hasBond β (s .bonds)) u
+  put-there x (bond β) (u, e, m, b, q) = has-fire net s G (arcsOf net t) (fits net ok t h) β ∙ or-l (hasBond β (arcsOf net t .outBonds)) (hasBond β (s .bonds) && not (brokenBond (arcsOf net t) β)) u
 
   -- ---- each way
 
@@ -91,7 +96,7 @@ module _ (net : Net) (ok : netRule net ≡ true) (s : Marking) (G : Good net s) 
 
   fired-to : (x : ℕ) (i : Item) → marksOf net z x i → firedMarks (petriNet net) (marksOf net s) t x i
   fired-to x (base a) (u, q) = was-there x (base a) u q
-  fired-to x (bond β) (u, q) = go (or-e (hasBond β (arcsOf net t .outBonds)) (hasBond β (s .bonds)) (sym (has-fire net s G (arcsOf net t) (fits net ok t h) β) ∙ u))
+  fired-to x (bond β) (u, q) = go (after-e (arcsOf net t) (s .bonds) β u)
     where
       go : (hasBond β (arcsOf net t .outBonds) ≡ true) ⊎ (hasBond β (s .bonds) ≡ true) → firedMarks (petriNet net) (marksOf net s) t x (bond β)
       go (inl k) =
@@ -111,8 +116,9 @@ module _ (net : Net) (ok : netRule net ≡ true) (s : Marking) (G : Good net s) 
       let (_, _, u, l) = con-leads net s G y a i c in
       (still-there i u, goes e m (anchor i) (rw b l) ∙ q)
 
-  -- ---- the bases that leave
+-- ---- the bases that leave
 
+module _ (net : Net) (ok : netRule net ≡ true) (s : Marking) (G : Good net s) (t : Transition) (h : t .0 < length (net .transitions)) (r13 : misplaced (arcsOf net t) s ≡ false) where
   moved-leave : (p : ℕ) → moves (s .bonds) (arcsOf net t .entries) p ≡ true → Somewhere (leaves (petriNet net) (marksOf net s) t) p
   moved-leave p k =
       let (e, m, l) = moves-led (arcsOf net t) (s .bonds) p k in
@@ -128,9 +134,9 @@ module _ (net : Net) (ok : netRule net ≡ true) (s : Marking) (G : Good net s) 
   moved-out p =
       let f = enabled-fires net s t e in
       let its = mem-moved net s G (arcsOf net t) (fits net ok t (f .listed)) p in
-      ((λ k. moved-leave net ok s G t (f .listed) (f .placed) (f .together) p (sym its ∙ k)), λ k. its ∙ leave-moved net ok s G t (f .listed) (f .placed) (f .together) p k)
+      ((λ k. moved-leave net ok s G t (f .listed) (f .placed) p (sym its ∙ k)), λ k. its ∙ leave-moved net ok s G t (f .listed) (f .placed) p k)
 
-  pub fired-marks : (x : ℕ) (i : Item) → Iff (marksOf net (fire (net .bases) (arcsOf net t) s) x i) (firedMarks (petriNet net) (marksOf net s) t x i)
-  fired-marks x i =
+  pub fired-marks : ((β : Bond) → brokenBond (arcsOf net t) β ≡ false) → (x : ℕ) (i : Item) → Iff (marksOf net (fire (net .bases) (arcsOf net t) s) x i) (firedMarks (petriNet net) (marksOf net s) t x i)
+  fired-marks unbroken x i =
       let f = enabled-fires net s t e in
-      (fired-to net ok s G t (f .listed) (f .placed) (f .together) x i, fired-from net ok s G t (f .listed) (f .placed) (f .together) x i)
+      (fired-to net ok s G t (f .listed) (f .placed) (f .together) unbroken x i, fired-from net ok s G t (f .listed) (f .placed) (f .together) unbroken x i)

@@ -20,7 +20,7 @@ use Rattle.published.specs.Backtracking.{BacktrackEnabled, leavesBack, r
 use Rattle.published.specs.Causal.{noOrder, CausalEnabled}
 use Rattle.published.specs.Sheets.{petriNet, marksOf, historyOf, orderAfter, orderOfLines}
 use Rattle.published.specs.Claims.{JournalAsPublished}
-use Rattle.published.proofs.Claims.{published-B}
+use Rattle.published.proofs.Claims.{well-formed-B, published-B}
 
 abbrev N : PetriNet
 N = petriNet netB
@@ -30,7 +30,7 @@ abbrev after : List (List ℕ) → Journal
 after cs = play netB cs (begin netB)
 
 shown : (cs : List (List ℕ)) → JournalAsPublished netB (play netB cs (begin netB)) (orderAfter netB cs (begin netB) noOrder)
-shown cs = published-B .states (published-B .wellFormed) cs
+shown cs = published-B .states well-formed-B cs
 
 abbrev start : Marks
 start = marksOf netB (netB .start)
@@ -113,7 +113,7 @@ handed = record {
 }
 
 shown-handed : JournalAsPublished netB handed (orderOfLines netB (handed .lines))
-shown-handed = published-B .histories (published-B .wellFormed) handed refl
+shown-handed = published-B .histories well-formed-B handed refl
 
 pub depends-handed : orderOfLines netB (handed .lines) (transition 0) 5 (transition 1) 9
 depends-handed = shown-handed .order (transition 0) 5 (transition 1) 9 .1 (_, _, inl refl, inr (inl refl), refl, refl, refl, refl, omega arith, (0, refl, refl))

@@ -2,11 +2,17 @@
 pub mod Arcs
 pub mod Nets
 pub mod Components
+pub mod Exchange
 pub mod Enabling
 pub mod Firing
+pub mod TakenBack
 pub mod Reversal
+pub mod Firing22
+pub mod Reversal24
+pub mod Enabling7
 pub mod Lines
 pub mod Sessions
+pub mod Common
 pub mod Keys
 pub mod FiredKeys
 pub mod Order
@@ -15,3 +21,4 @@ pub mod Causal
 pub mod ByCases
 pub mod Claims
 pub mod Instances
+pub mod UncouplingInstances

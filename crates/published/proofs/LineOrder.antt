@@ -1,5 +1,5 @@
 -- The relation ≺ that Definition 10 gives on the forward run of a sound history's lines, each with its own key, is "of higher
--- key, with a common moved base". Assumes that the net meets the sheet's rules.
+-- key, and moved the base of an entry of the earlier". Assumes that the net meets the sheet's rules.
 use mathlib.Core.Path.{_≡_, refl, sym, subst}
 use mathlib.Core.Bool.{true}
 use mathlib.Core.List.{List, [], _∷_, _++_, append-assoc, append-nil}
@@ -53,8 +53,8 @@ module _ (net : Net) (ok : netRule net ≡ true) where
 
   over : (ys xs : List LiveLine) (y : Marking) (g : Key) → Run (Fires net) (net .start) xs y → highestLive xs .0 ≤ g .0 → g .0 ≤ maxKey
       → (z : Marking) (n : Key) → Run (Fires net) y ys z → Held net (state z (xs ++ ys) n)
-      → (R : Order) → Agrees (state y xs g) R → Agrees (state z (xs ++ ys) n) (orderOver net ys (state y xs g) R)
-  over [] xs y g r top low z n q H R A = subst (λ (ls : List LiveLine). Agrees (state z ls n) R) (sym (append-nil xs)) A
+      → (R : Order) → Agrees net (state y xs g) R → Agrees net (state z (xs ++ ys) n) (orderOver net ys (state y xs g) R)
+  over [] xs y g r top low z n q H R A = subst (λ (ls : List LiveLine). Agrees net (state z ls n) R) (sym (append-nil xs)) A
   over (l ∷ ys) xs y g r top low z n (y₁, F, q) H R A =
       let y₂ : Marking = fire (net .bases) (arcsOf net (l .transition)) y in
       let F₂ : Fires net y (l .transition) (l .moved) y₂ = subst (Fires net y (l .transition) (l .moved)) (F .gives) F in
@@ -66,9 +66,9 @@ module _ (net : Net) (ok : netRule net ≡ true) where
       let high : highestLive xs .0 < l .key .0 = highest-below xs l ys (H .above l (mem-mid l xs ys)) (H .up) in
       let top₂ : highestLive (xs ++ (l ∷ [])) .0 ≤ l .key .0 = rw (highest-snoc xs l (omega arith)) (omega arith) in
       let low₂ : l .key .0 ≤ maxKey = (let a = mem-highest (xs ++ l ∷ ys) l (mem-mid l xs ys) in let b = H .top in let c = H .low in omega arith) in
-      let A₂ : Agrees (withLine net (state y xs g) l) R₂ = line-order net ok (state y xs g) (held-left xs (l ∷ ys) y g r top low z n H) R A l (fires-enabled y y₁ l F) (F .moves-m) high in
-      subst (λ (ls : List LiveLine). Agrees (state z ls n) (orderOver net ys (withLine net (state y xs g) l) R₂)) e (over ys (xs ++ (l ∷ [])) y₂ (l .key) r₂ top₂ low₂ z n q₂ H₂ R₂ A₂)
+      let A₂ : Agrees net (withLine net (state y xs g) l) R₂ = line-order net ok (state y xs g) (held-left xs (l ∷ ys) y g r top low z n H) R A l (fires-enabled y y₁ l F) (F .moves-m) high in
+      subst (λ (ls : List LiveLine). Agrees net (state z ls n) (orderOver net ys (withLine net (state y xs g) l) R₂)) e (over ys (xs ++ (l ∷ [])) y₂ (l .key) r₂ top₂ low₂ z n q₂ H₂ R₂ A₂)
 
-  pub lines-order : (j : Journal) → Held net j → Agrees j (orderOfLines net (j .lines))
+  pub lines-order : (j : Journal) → Held net j → Agrees net j (orderOfLines net (j .lines))
   lines-order j H =
       over (j .lines) [] (net .start) (key 0) refl (omega arith) (omega arith) (j .marking) (j .given) (H .run) H noOrder (λ u i t k. ((λ r. absurd r), λ (l, h, m, _, _, _, _, _, _, _). absurd m))

@@ -12,7 +12,7 @@ use Rattle.causal.specs.Lists.{Mem}
 use Rattle.causal.specs.Reorderings.{Dependent}
 use Rattle.causal.proofs.Tests.{test}
 use Rattle.net.specs.Firing.{inSet}
-use Rattle.net.specs.Journal.{LiveLine, highestLive, common, builtOn}
+use Rattle.net.specs.Journal.{LiveLine, highestLive, builtOn}
 use Rattle.net.proofs.Keys.{built-e, built-i, common-e, common-i}
 
 -- ---- the highest key

@@ -28,6 +28,11 @@ Order = Transition → ℕ → Transition → ℕ → Type 0
 abbrev pub noOrder : Order
 noOrder u j t k = ⊥
 
+-- One or more steps of the relation: its transitive closure.
+pub data Chain (R : Order) : Transition → ℕ → Transition → ℕ → Type 0 where
+  once : {u t : Transition} {i k : ℕ} → R u i t k → Chain R u i t k
+  onward : {u v t : Transition} {i n k : ℕ} → R u i v n → Chain R v n t k → Chain R u i t k
+
 -- Definition 10, ≺′ after the firing of t; M is the marking before it, H′ the history after it (Definition 5's).
 abbrev pub firedOrder : PetriNet → Marks → Keys → Order → Transition → Order
 firedOrder N M H′ R t u j v k = R u j v k ⊎ ((v ≡ t) × DependsOn N M H′ t k u j)

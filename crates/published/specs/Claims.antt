@@ -1,11 +1,12 @@
--- What is claimed: that document 01's firing and taking back, on every journal that a session can reach, are chapter 3's, but
--- for the key that a firing gets (02, T-03). Statements only; proofs/ has a proof of each.
+-- What is claimed: that document 01's firing and taking back, on every journal that a session can reach, are chapter 3's, where
+-- no step breaks a bond, and section 4.1's (Uncouples) in every case, but for the key that a firing gets (02, T-03).
+-- Statements only; proofs/ has a proof of each.
 use mathlib.Core.Path.{_≡_}
 use mathlib.Core.Logic.{_⊎_}
 use mathlib.Core.Bool.{true}
 use mathlib.Core.List.{List}
 use Prim.Native.Nat.{ℕ, suc, _<_}
-use Rattle.net.specs.Net.{Marking, Net}
+use Rattle.net.specs.Net.{Marking, Net, arcsOf}
 use Rattle.net.specs.Firing.{inSet}
 use Rattle.net.specs.Checks.{clear}
 use Rattle.net.specs.Journal.{Journal, highestLive, lastGiven, lineOf, enableChecks, undoChecks, newLine, fireReply, undoReply, begin, play, answers}
@@ -18,7 +19,9 @@ use Rattle.published.specs.States.{Marks, Somewhere, IsMarking, EachInOn
 use Rattle.published.specs.Forward.{Enabled, leaves, comes, firedMarks, keysWith, keysAndZero, firedKeys}
 use Rattle.published.specs.Backtracking.{BacktrackEnabled, leavesBack, comesBack, reversedMarks, reversedKeys}
 use Rattle.published.specs.Causal.{Order, noOrder, firedOrder, CausalEnabled, reversedOrder}
-use Rattle.published.specs.Sheets.{petriNet, marksOf, historyOf, givenAndZero, orderAfter, orderOfLines, laterWithCommon}
+use Rattle.published.specs.Uncoupling.{WellFormed20, Keeps}
+use Rattle.published.specs.Sheets.{petriNet, keepsAll, breaksNothing, marksOf, historyOf, givenAndZero, orderAfter, orderOfLines, laterWithCommon}
+use Rattle.published.specs.Uncouples.{UncouplesByCases, Uncouples}
 
 -- ---- The reading of Definitions 5 and 7. Where a place is not both incoming and outgoing, the one formula is the chapter's
 -- three cases. Where it is both, two of them speak of it, and it is the one that takes out and then the one that puts in.
@@ -124,17 +127,22 @@ pub record JournalKeysAsPublished (net : Net) (j : Journal) : Type 0 where
       ((u : Transition) (k : ℕ) → Iff (historyOf (fireReply net j t .journal) u k) (firedKeys (petriNet net) (historyOf j) t u k))
 
 -- ---- All of it, of a net and every list of commands on it. ≺ is what Definitions 10 and 12 keep over the commands; of a sound
--- history that is handed in, whose past is not known, what Definition 10 gives on the forward run of its lines. `states` is
--- claimed of well-formed nets; that the net is one is a claim of its own: a sheet of T-07 need not keep Definition 3(2), and
--- of its net `states` then says nothing.
+-- history that is handed in, whose past is not known, what Definition 10 gives on the forward run of its lines. `states` and
+-- `histories` are claimed of nets that are well-formed by Definition 3, `statesUncouple` and `historiesUncouple` of all.
 
 pub record Published (net : Net) : Type 0 where
   pub definition2 : Definition2 (petriNet net)
-  pub wellFormed : WellFormed (petriNet net)
+  -- Definition 20, without 3(2); the net is well-formed by Definition 3 exactly if no step of it breaks a bond
+  pub wellFormed20 : WellFormed20 (petriNet net)
+  pub wellFormed : Iff (WellFormed (petriNet net)) (breaksNothing net ≡ true)
+  pub keeps : (t : Transition) → petriNet net .isTransition t → Iff (Keeps (petriNet net) t) (keepsAll (arcsOf net t) ≡ true)
   pub byCases : ByCases net
+  pub uncouplesByCases : UncouplesByCases net
   pub initial : Initial net (marksOf net (begin net .marking)) (historyOf (begin net))
   pub states : WellFormed (petriNet net) → (cs : List (List ℕ)) → JournalAsPublished net (play net cs (begin net)) (orderAfter net cs (begin net) noOrder)
   pub histories : WellFormed (petriNet net) → (j : Journal) → sound net j ≡ true → JournalAsPublished net j (orderOfLines net (j .lines))
+  pub statesUncouple : (cs : List (List ℕ)) → Uncouples net (play net cs (begin net)) (orderAfter net cs (begin net) noOrder)
+  pub historiesUncouple : (j : Journal) → sound net j ≡ true → Uncouples net j (orderOfLines net (j .lines))
   pub keys : (cs : List (List ℕ)) → JournalKeysAsPublished net (play net cs (begin net))
   pub historyKeys : (j : Journal) → sound net j ≡ true → JournalKeysAsPublished net j
   -- the highest given is the highest of all keys in the answers, 0 where there are none; of a history that is handed in it is

@@ -2,13 +2,14 @@
 -- and the relation ≺ that Definitions 10 and 12 keep over a session. Definitions only.
 use mathlib.Core.Path.{_≡_}
 use mathlib.Core.Logic.{_⊎_}
-use mathlib.Core.Bool.{true}
+use mathlib.Core.Bool.{Bool, true}
 use mathlib.Core.List.{List, [], _∷_, _++_}
 use Prim.Native.Nat.{ℕ, _<_}
 use lib.ListN.{length}
 use Rattle.causal.specs.Lists.{Mem}
 use Rattle.causal.specs.Reorderings.{Dependent}
-use Rattle.net.specs.Net.{Marking, Net, hasBond, place, arcsOf}
+use Rattle.net.specs.Tests.{all}
+use Rattle.net.specs.Net.{Arcs, Marking, Net, hasBond, place, arcsOf}
 use Rattle.net.specs.Firing.{inSet, fire}
 use Rattle.net.specs.Journal.{LiveLine, Journal, Answer, key, fired, undone, refused, begin, lineOf, transitionNamed, act}
 use Rattle.net.specs.declared.Bond.{Bond}
@@ -43,6 +44,13 @@ petriNet net = record {
   takes = λ x t. labelAt (λ (e : Entry). e .from) (arcsOf net t .entries) (arcsOf net t .inBonds) x;
   puts = λ t x. labelAt (λ (e : Entry). e .to) (arcsOf net t .entries) (arcsOf net t .outBonds) x;
 }
+
+-- Every in-bond is an out-bond: of one transition, and of every transition of a net.
+abbrev pub keepsAll : Arcs → Bool
+keepsAll t = all (λ (β : Bond). hasBond β (t .outBonds)) (t .inBonds)
+
+abbrev pub breaksNothing : Net → Bool
+breaksNothing net = all keepsAll (net .transitions)
 
 -- a base of the net, or a bond of the marking
 abbrev pub Present : Net → Marking → Items
@@ -85,6 +93,16 @@ orderOver net (l ∷ ls) j R = orderOver net ls (withLine net j l) (firedOrder (
 -- ≺ of a list of lines alone: what Definition 10 gives on their forward run from the start, each with its own key
 abbrev pub orderOfLines : Net → List LiveLine → Order
 orderOfLines net ls = orderOver net ls (begin net) noOrder
+
+-- the line h moved the base of an entry of l's transition
+abbrev pub MovesEntry : Net → LiveLine → LiveLine → Type 0
+MovesEntry net l h = (e : Entry) × Mem e (arcsOf net (l .transition) .entries) × (inSet (h .moved) (e .base) ≡ true)
+
+-- ≺ of Definitions 9, 10 and 12, by the lines alone: two live firings, the second of higher key, which moved the base of an
+-- entry of the first.
+abbrev pub laterWithEntry : Net → Journal → Order
+laterWithEntry net j u i t k = (l : LiveLine) × (h : LiveLine) × Mem l (j .lines) × Mem h (j .lines)
+    × (l .transition ≡ u) × (l .key .0 ≡ i) × (h .transition ≡ t) × (h .key .0 ≡ k) × (i < k) × MovesEntry net l h
 
 -- Document 01's dependence, as refusal 20 has it: two live firings, the second of higher key, that moved a common base.
 abbrev pub laterWithCommon : Journal → Order

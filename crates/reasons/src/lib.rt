@@ -2,6 +2,7 @@
 // that holds the condition; how many there are where none does. That what is named holds it: proofs/Named and proofs/Built.
 ghost use mathlib.Core.Path.{_≡_};
 ghost use Prim.Native.Nat.{ℕ, _<_, _≤_};
+ghost use Rattle.net.specs.Firing.{bondsSeen};
 ghost use Rattle.net.specs.Limits.{maxBases, maxBonds, maxLive};
 ghost use Rattle.net.specs.Sorted.{Ascending};
 ghost use Rattle.net.specs.Net.{Arcs, Marking, sameBond, lessBond};
@@ -11,7 +12,7 @@ ghost use Rattle.labels.specs.Labelled.{Parted};
 ghost use Rattle.net.specs.Tests.{firstAt};
 ghost use Rattle.reasons.specs.Reasons.{awayFrom, absentFrom, presentIn, tornFrom, hasPartner, laterAt, commonAt};
 use bonds::has_bond;
-use enabling::is_in_bond;
+use enabling::is_bond_of;
 use format::entry;
 use format::entry_count;
 use format::in_bond;
@@ -94,7 +95,7 @@ pub fn first_present<'a>(
     let mut i: u8 = 0;
     while i < n {
         let b = out_bond(step, i);
-        let kept = is_in_bond(step, b);
+        let kept = is_bond_of(step, false, b);
         let here = has_bond(lo, hi, count, b);
         if !kept & here {
             return i;
@@ -105,10 +106,10 @@ pub fn first_present<'a>(
 }
 
 // Two entries hang together and have different out-places. The callers' entries are of bases below the limit, and their
-// labels are by the marking's bonds, here and below.
+// labels are by the bonds after the firing, here and below.
 fn is_torn(l: &[Base; MAX_BASES], e: Entry, d: Entry) -> bool
     requires { ⌜ (e .base < maxBases) × (d .base < maxBases) ⌝ }
-    ensures { λ r. ⌜ ((t : Arcs) (s : Marking) → Parted maxBases (now (l .entry)) (s .bonds) → r ≡ tornFrom t s e d) ⌝ }
+    ensures { λ r. ⌜ ((t : Arcs) (s : Marking) → Parted maxBases (now (l .entry)) (bondsSeen t (s .bonds)) → r ≡ tornFrom t s e d) ⌝ }
 {
     let x = e.base as usize;
     let y = d.base as usize;
@@ -120,7 +121,7 @@ pub fn first_partner(step: &[u8], l: &[Base; MAX_BASES], e: Entry) -> u8
     requires { ⌜ e .base < maxBases ⌝ }
     requires { ⌜ ((i : ℕ) → i < entryCount (now step) → nthEntry (now step) i .base < maxBases) ⌝ }
     ensures { λ r. ⌜
-        ((s : Marking) → Parted maxBases (now (l .entry)) (s .bonds)
+        ((s : Marking) → Parted maxBases (now (l .entry)) (bondsSeen (arcsIn (now (step .entry))) (s .bonds))
         → r ≡ firstAt (tornFrom (arcsIn (now (step .entry))) s e) (arcsIn (now (step .entry)) .entries)) ⌝ }
 {
     let n = entry_count(step);
@@ -140,7 +141,7 @@ pub fn first_partner(step: &[u8], l: &[Base; MAX_BASES], e: Entry) -> u8
 pub fn first_torn(step: &[u8], l: &[Base; MAX_BASES]) -> u8
     requires { ⌜ ((i : ℕ) → i < entryCount (now step) → nthEntry (now step) i .base < maxBases) ⌝ }
     ensures { λ r. ⌜
-        ((s : Marking) → Parted maxBases (now (l .entry)) (s .bonds)
+        ((s : Marking) → Parted maxBases (now (l .entry)) (bondsSeen (arcsIn (now (step .entry))) (s .bonds))
         → r ≡ firstAt (hasPartner (arcsIn (now (step .entry))) s) (arcsIn (now (step .entry)) .entries)) ⌝ }
 {
     let n = entry_count(step);

@@ -26,6 +26,10 @@ pub const SHEETS_REFUSED: usize = 14;
 // which a count of the tally is 65,535; firings while the highest key given was not live; 18 with nothing live: 15 to 23.
 const MIDDLE: usize = 15;
 
+// Firings that broke a bond; those that took its two bases to different places; takings back of a firing that broke a bond, and of
+// those the ones from the middle: 33 to 36 (document 02, T-07).
+const BROKEN: usize = 33;
+
 // Bytes of all outputs.
 pub const BYTES: usize = 24;
 
@@ -92,10 +96,21 @@ fn count_met(c: &mut [u64], met: [bool; 9]) {
     }
 }
 
+// Of a firing or a taking back.
+fn count_broken(c: &mut [u64], s: &[u64], word: u64, key: u64) {
+    let broke = oracle::broken(s) != 0;
+    let undone = (word == UNDONE) & broke;
+    more(c, BROKEN, 1, (word == FIRED) & broke);
+    more(c, BROKEN + 1, 1, (word == FIRED) & (oracle::parted(s) != 0));
+    more(c, BROKEN + 2, 1, undone);
+    more(c, BROKEN + 3, 1, undone & (key < highest(s)));
+}
+
 // One more command, with the second engine's reply and its state afterwards.
 pub fn count_command(c: &mut [u64], sheet: &[u8], s: &[u64], reply: u64) {
     let met = met_by(sheet, s, reply / 65536, reply % 65536);
     more(c, RUN, 1, true);
     more(c, row_of(reply), 1, true);
     count_met(c, met);
+    count_broken(c, s, reply / 65536, reply % 65536);
 }

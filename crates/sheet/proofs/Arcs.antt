@@ -13,7 +13,7 @@ use Rattle.net.specs.Limits.{maxEntries}
 use Rattle.net.specs.Tests.{all, table}
 use Rattle.net.specs.Sorted.{ascends}
 use Rattle.net.specs.Net.{lessBond}
-use Rattle.net.specs.Rules.{entryRule, entriesRule, joins, bondsRule, keptRule, arcsBondsRule, arcsRule}
+use Rattle.net.specs.Rules.{entryRule, entriesRule, joins, bondsRule, arcsBondsRule, arcsRule}
 use Rattle.net.specs.declared.Bond.{Bond}
 use Rattle.net.specs.declared.Entry.{Entry}
 use Rattle.net.proofs.Tests.{and-l, and-r, and-i, or-no-l, or-no-r, all-e, any-e}
@@ -78,8 +78,7 @@ module _ (places bases : ℕ) (b : List ℕ) (h7 : wrongWidth b ≡ false) (h8 :
 
   outs : all (joins (λ (e : Entry). e .to) (arcsIn b .entries)) (arcsIn b .outBonds) ≡ true
   outs = and-r (ascends lessBond (arcsIn b .outBonds)) _
-      (and-l (bondsRule (λ (e : Entry). e .to) (arcsIn b .entries) (arcsIn b .outBonds)) (keptRule (arcsIn b))
-      (and-r (bondsRule (λ (e : Entry). e .from) (arcsIn b .entries) (arcsIn b .inBonds)) _ bonds))
+      (and-r (bondsRule (λ (e : Entry). e .from) (arcsIn b .entries) (arcsIn b .inBonds)) _ bonds)
 
   base-there : (e : Entry) → Mem e (arcsIn b .entries) → e .base < bases
   base-there e m = ltb-true (e .base) bases (and-l (ltb (e .base) bases) (ltb (e .from) places && ltb (e .to) places) (there e m))

@@ -1,17 +1,17 @@
 -- Names for the tests of one entry that the rules write out, for the invariants of the loops.
 -- Assumes nothing.
 use Prim.Native.Nat.{ℕ}
-use mathlib.Core.Path.{_≡_}
+use mathlib.Core.Path.{_≡_, ap}
 use mathlib.Core.Bool.{Bool, true, false, not, _&&_}
 use mathlib.Core.List.{List}
 use lib.Dec.{eqb}
 use Rattle.net.specs.Tests.{any}
-use Rattle.net.specs.Net.{hasBond}
-use Rattle.net.specs.Rules.{bondsRule, keptRule}
+use Rattle.net.specs.Rules.{bondsRule}
 use Rattle.format.specs.Arcs.{arcsIn}
 use Rattle.net.specs.declared.Bond.{Bond}
 use Rattle.net.specs.declared.Entry.{Entry}
-use Rattle.sheet_bonds.specs.Sides.{sideOf, bondsOf}
+use Rattle.format.specs.Sides.{sideBonds}
+use Rattle.sheet_bonds.specs.Sides.{sideOf}
 use Rattle.sheet_bonds.specs.Conditions.{wrongBonds}
 
 -- (9) d is the entry of `hi`, and its place on that side is `at`
@@ -22,23 +22,15 @@ partner out hi at d = eqb (d .base) hi && eqb at (sideOf out d)
 abbrev pub starting : Bool → List Entry → Bond → Entry → Bool
 starting out es x e = eqb (e .base) (x .lo) && any (partner out (x .hi) (sideOf out e)) es
 
--- (9) x is among the out-couplings of b
-abbrev pub kept : List ℕ → Bond → Bool
-kept b x = hasBond x (arcsIn b .outBonds)
-
--- Condition 9, where it is found: at the in-couplings, at the out-couplings, or by the last rule.
+-- Condition 9, where it is found: at the in-couplings, or at the out-couplings.
 abbrev goodSide : List ℕ → Bool → Bool
-goodSide b out = bondsRule (sideOf out) (arcsIn b .entries) (bondsOf b out)
+goodSide b out = bondsRule (sideOf out) (arcsIn b .entries) (sideBonds b out)
 
 module _ (b : List ℕ) where
   pub in-wrong : goodSide b false ≡ false → true ≡ wrongBonds b
   unfolding wrongBonds
   in-wrong e = rw e
 
-  pub out-wrong : goodSide b false ≡ true → goodSide b true ≡ false → true ≡ wrongBonds b
+  pub out-wrong : goodSide b false ≡ true → (r : Bool) → r ≡ goodSide b true → not r ≡ wrongBonds b
   unfolding wrongBonds
-  out-wrong e d = rw (e, d)
-
-  pub kept-wrong : goodSide b false ≡ true → goodSide b true ≡ true → (r : Bool) → r ≡ keptRule (arcsIn b) → not r ≡ wrongBonds b
-  unfolding wrongBonds
-  kept-wrong e d r q = rw (e, d, q)
+  out-wrong e r d = rw e (ap not d)

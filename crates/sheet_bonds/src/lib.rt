@@ -6,19 +6,18 @@ ghost use Prim.Native.Nat.{_+_, _<_};
 ghost use lib.Dec.{eqb};
 ghost use Rattle.net.specs.Tests.{all, any};
 ghost use Rattle.net.specs.Sorted.{ascends};
-ghost use Rattle.net.specs.Net.{lessBond, sameBond, hasBond};
-ghost use Rattle.net.specs.Rules.{joins, bondsRule, keptRule};
+ghost use Rattle.net.specs.Net.{lessBond};
+ghost use Rattle.net.specs.Rules.{joins, bondsRule};
 ghost use Rattle.net.specs.declared.Entry.{Entry};
 ghost use Rattle.format.specs.Arcs.{arcsIn};
-ghost use Rattle.sheet_bonds.specs.Sides.{sideOf, bondCount, nthBond, bondsOf};
+ghost use Rattle.format.specs.Sides.{sideBonds};
+ghost use Rattle.sheet_bonds.specs.Sides.{sideOf};
 ghost use Rattle.sheet_bonds.specs.Conditions.{wrongBonds};
 use format::bond_before;
+use format::bond_count;
 use format::entry;
 use format::entry_count;
-use format::in_bond;
-use format::in_count;
-use format::out_bond;
-use format::out_count;
+use format::nth_bond;
 use net::Base;
 use net::Bond;
 use net::Entry;
@@ -30,20 +29,8 @@ fn side(e: Entry, out: bool) -> Place
     if out { e.to } else { e.from }
 }
 
-fn bond_count(b: &[u8], out: bool) -> u8
-    ensures { λ r. ⌜ r ≡ bondCount (now (b .entry)) out ⌝ }
-{
-    if out { out_count(b) } else { in_count(b) }
-}
-
-fn nth_bond(b: &[u8], out: bool, i: u8) -> Bond
-    ensures { λ r. ⌜ r ≡ nthBond (now (b .entry)) out i ⌝ }
-{
-    if out { out_bond(b, i) } else { in_bond(b, i) }
-}
-
 fn bonds_ascend(b: &[u8], out: bool) -> bool
-    ensures { λ r. ⌜ r ≡ ascends lessBond (bondsOf (now (b .entry)) out) ⌝ }
+    ensures { λ r. ⌜ r ≡ ascends lessBond (sideBonds (now (b .entry)) out) ⌝ }
 {
     let n = bond_count(b, out);
     let mut i: u8 = 0;
@@ -116,7 +103,7 @@ fn bond_joins(b: &[u8], out: bool, x: Bond) -> bool
 }
 
 fn bonds_join(b: &[u8], out: bool) -> bool
-    ensures { λ r. ⌜ r ≡ all (joins (sideOf out) (arcsIn (now (b .entry)) .entries)) (bondsOf (now (b .entry)) out) ⌝ }
+    ensures { λ r. ⌜ r ≡ all (joins (sideOf out) (arcsIn (now (b .entry)) .entries)) (sideBonds (now (b .entry)) out) ⌝ }
 {
     let n = bond_count(b, out);
     let mut i: u8 = 0;
@@ -131,7 +118,7 @@ fn bonds_join(b: &[u8], out: bool) -> bool
 }
 
 fn bonds_good(b: &[u8], out: bool) -> bool
-    ensures { λ r. ⌜ r ≡ bondsRule (sideOf out) (arcsIn (now (b .entry)) .entries) (bondsOf (now (b .entry)) out) ⌝ }
+    ensures { λ r. ⌜ r ≡ bondsRule (sideOf out) (arcsIn (now (b .entry)) .entries) (sideBonds (now (b .entry)) out) ⌝ }
 {
     if !bonds_ascend(b, out) {
         return false;
@@ -139,52 +126,12 @@ fn bonds_good(b: &[u8], out: bool) -> bool
     bonds_join(b, out)
 }
 
-fn bonds_same(x: Bond, y: Bond) -> bool
-    ensures { λ r. ⌜ r ≡ sameBond x y ⌝ }
-{
-    x.lo == y.lo && x.hi == y.hi
-}
-
-fn has_out_bond(b: &[u8], x: Bond) -> bool
-    ensures { λ r. ⌜ r ≡ hasBond x (arcsIn (now (b .entry)) .outBonds) ⌝ }
-{
-    let n = out_count(b);
-    let mut i: u8 = 0;
-    while i < n {
-        let y = out_bond(b, i);
-        if bonds_same(x, y) {
-            return true;
-        }
-        i += 1;
-    }
-    false
-}
-
-// Every in-coupling is an out-coupling too.
-fn bonds_kept(b: &[u8]) -> bool
-    ensures { λ r. ⌜ r ≡ keptRule (arcsIn (now (b .entry))) ⌝ }
-{
-    let n = in_count(b);
-    let mut i: u8 = 0;
-    while i < n {
-        let x = in_bond(b, i);
-        if !has_out_bond(b, x) {
-            return false;
-        }
-        i += 1;
-    }
-    true
-}
-
-// 9: a coupling of one side or the other is against the rule, or an in-coupling is no out-coupling.
+// 9: a coupling of one side or the other is against the rule. An in-coupling need not be an out-coupling (document 02, T-07).
 pub fn wrong_bonds(b: &[u8]) -> bool
     ensures { λ r. ⌜ r ≡ wrongBonds (now (b .entry)) ⌝ }
 {
     if !bonds_good(b, false) {
         return true;
     }
-    if !bonds_good(b, true) {
-        return true;
-    }
-    !bonds_kept(b)
+    !bonds_good(b, true)
 }

@@ -67,8 +67,7 @@ pub placed-fired : (s : List ℕ) (m : Marking) (t : Transition) → Placed s m 
     → Placed s (laid (fire (basesOf s) (arcsOf (netOf s) t) (markingOf (basesOf s) m)))
 unfolding netOf
 placed-fired s m t P h = placed-laid s (fire (basesOf s) (arcsOf (netOf s) t) (markingOf (basesOf s) m)) (P .accepted)
-    (fire-good (netOf s) (markingOf (basesOf s) m) (P .good) (arcsOf (netOf s) t) (rw (arcs-of s t) (fit s m t P (enabled-listed s (markingOf (basesOf s) m) t h)))
-    (clear-off (enableChecks (netOf s) (markingOf (basesOf s) m) t) h 16))
+    (fire-good (netOf s) (markingOf (basesOf s) m) (P .good) (arcsOf (netOf s) t) (rw (arcs-of s t) (fit s m t P (enabled-listed s (markingOf (basesOf s) m) t h))))
 
 -- the bonds of a good marking fit its arrays
 pub placed-room : (s : List ℕ) (m : Marking) → Placed s m → m .count ≤ maxBonds
@@ -88,6 +87,7 @@ placed-ready s m P = record {
   range = P .good .range;
   bases = λ e h. absurd h;
   outs = λ b h. both false h refl;
+  ins = λ b h. both false h refl;
 }
 
 -- what labels of its bonds ask: they fit, and their ends are below the limit

@@ -32,4 +32,5 @@ ready s m t P h =
       range = P .good .range;
       bases = F .bases;
       outs = λ b k. (F .low b k, let (e, d, J, _) = F .outs b k in rw (← J .hi) (F .bases d (J .second)));
+      ins = λ b k. (F .lowIn b k, let (e, d, J, _) = F .ins b k in rw (← J .hi) (F .bases d (J .second)));
     }

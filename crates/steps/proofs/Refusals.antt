@@ -1,25 +1,28 @@
 -- The first of 12 to 16, from what the engine says of the transition's bytes: one law for each answer.
 -- Assumes nothing.
 use mathlib.Core.Path.{_≡_, sym, _∙_, ap}
-use mathlib.Core.Bool.{true, false}
+use mathlib.Core.Bool.{true, false, not}
 use mathlib.Core.List.{List}
 use Prim.Native.Nat.{ℕ, _<_, _≤_}
 use borrow.Author.Tests.{le-leb, lt-leb}
+use Rattle.net.specs.Tests.{keep}
 use Rattle.net.specs.Checks.{first}
 use Rattle.net.specs.Net as Net
 use Rattle.net.specs.Net.{Arcs, arcsOf}
-use Rattle.net.specs.Firing.{misplaced, bondAbsent, bondPresent, tornApart}
+use Rattle.net.specs.Firing.{misplaced, bondAbsent, bondPresent, brokenBond, tornWith, tornApart}
 use Rattle.net.specs.Journal.{enableChecks}
+use Rattle.net.specs.declared.Bond.{Bond}
 use Rattle.net.specs.declared.Transition.{Transition}
+use Rattle.net.proofs.Uncoupling.{torn-rest}
 use Rattle.format.specs.Parts.{basesOf, transitionsOf, transitionBytes}
 use Rattle.format.specs.Arcs.{arcsIn}
 use Rattle.format.specs.NetOf.{netOf}
-use Rattle.marking.specs.Form.{markingOf}
+use Rattle.marking.specs.Form.{bondsOf, markingOf}
 use Rattle.marking.specs.declared.Marking.{Marking}
 use Rattle.enabling.specs.Ready.{Ready}
 use Rattle.steps.specs.Placed.{Placed}
 use Rattle.steps.proofs.Arcs.{arcs-of, count-of}
-use Rattle.steps.proofs.Readiness.{ready}
+use Rattle.steps.proofs.Readiness.{fit, ready}
 
 -- n and b are what the readers gave: the number of bases, and the transition's bytes
 module _ (s : List ℕ) (m : Marking) (t : Transition) (n : ℕ) (b : List ℕ) (en : n ≡ basesOf s) (eb : b ≡ transitionBytes s t) where
@@ -32,6 +35,10 @@ module _ (s : List ℕ) (m : Marking) (t : Transition) (n : ℕ) (b : List ℕ) 
   -- a condition on what was read is the condition on the net
   pub on-net : {X : Type 0} (f : Arcs → Net.Marking → X) → f (arcsIn b) (markingOf n m) ≡ f (arcsOf (netOf s) t) (markingOf (basesOf s) m)
   on-net f = λ i. f (arcs-at i) (markingOf (en i) m)
+
+  -- 16, as the code asks it, is 16
+  pub torn-at : Placed s m → t .0 < transitionsOf s → tornWith (arcsIn b) (keep (λ (c : Bond). not (brokenBond (arcsIn b) c)) (bondsOf m)) ≡ tornApart (arcsIn b) (markingOf n m)
+  torn-at P h = sym (torn-rest (netOf s) (arcsIn b) (rw eb (fit s m t P h)) (bondsOf m))
 
 module _ (s : List ℕ) (t : Transition) (z : Net.Marking) where
   pub refused-12 : transitionsOf s ≤ t .0 → 12 ≡ first (enableChecks (netOf s) z t)

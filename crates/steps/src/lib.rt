@@ -67,7 +67,7 @@ pub fn enable_refusal<'a>(
     if bond_present(step, lo, hi, count) {
         return 15;
     }
-    if torn_apart(step, places, l) {
+    if torn_apart(step, places, count, lo, hi, l) {
         return 16;
     }
     0

@@ -12,6 +12,7 @@ use Rattle.causal.proofs.Tests.{both, test}
 use Rattle.net.specs.Checks.{clear, first}
 use Rattle.net.specs.Net.{Arcs, Marking, bond, hasBond, place}
 use Rattle.net.specs.Connection.{connected}
+use Rattle.net.specs.Firing.{bondsSeen}
 use Rattle.net.specs.Journal.{LiveLine, noLine, refused, keyNamed, act}
 use Rattle.net.specs.declared.Bond.{Bond}
 use Rattle.net.specs.declared.Entry.{Entry}
@@ -129,8 +130,8 @@ module _ (s : List ℕ) (r : Record) (c : List ℕ) where
         record {
           first = mem-at (t .entries) noEntry _ (N .on);
           second = mem-at (t .entries) noEntry _ (M noEntry .on);
-          together = and-l (connected (m .bonds) (e .base) (d .base)) (not (eqb (e .to) (d .to))) h;
-          apart = differ (e .to) (d .to) (and-r (connected (m .bonds) (e .base) (d .base)) (not (eqb (e .to) (d .to))) h);
+          together = and-l (connected (bondsSeen t (m .bonds)) (e .base) (d .base)) (not (eqb (e .to) (d .to))) h;
+          apart = differ (e .to) (d .to) (and-r (connected (bondsSeen t (m .bonds)) (e .base) (d .base)) (not (eqb (e .to) (d .to))) h);
         },
       )
 

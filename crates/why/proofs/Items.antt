@@ -28,6 +28,8 @@ use Rattle.bonds.proofs.Fill.{mem-table}
 use Rattle.marking.specs.Form.{bondsOf}
 use Rattle.firings.proofs.Laid.{mem-at}
 use Rattle.sound.proofs.Lines.{placed-room}
+use Rattle.net.proofs.Bonds.{mem-has}
+use Rattle.labels.specs.Labelled.{Within}
 use Rattle.sound.proofs.Holds.{rule, few, placed}
 use Rattle.steps.proofs.Arcs.{arcs-of, count-of}
 use Rattle.session.specs.Records.{heldIn, Sound}
@@ -65,6 +67,16 @@ module _ (s : List ℕ) (r : Record) (c : List ℕ) (S : Sound s r) where
       (λ k. fits (netOf s) (rule s (r .marking) (r .firings) (r .given) (S .passed)) (transitionNamed c) (rw (count-of s) (ltb-true (transitionNamed c .0) (transitionsOf s) k)) .bases e h)
       (λ k. absurd (subst (λ (b : List ℕ). Mem e (arcsIn b .entries)) (no-bytes s (transitionNamed c) k) (subst (λ (a : Arcs). Mem e (a .entries)) (arcs-of s (transitionNamed c)) h)))
 
+  -- and so are its out-bonds
+  outs-of-bases : (x : Bond) → Mem x (t .outBonds) → (x .lo < x .hi) × (x .hi < basesOf s)
+  unfolding netOf
+  outs-of-bases x h = test (ltb (transitionNamed c .0) (transitionsOf s))
+      (λ k.
+      let F = fits (netOf s) (rule s (r .marking) (r .firings) (r .given) (S .passed)) (transitionNamed c) (rw (count-of s) (ltb-true (transitionNamed c .0) (transitionsOf s) k)) in
+      let mine = mem-has (t .outBonds) x h in
+      (F .low x mine, let (e, d, J, _) = F .outs x mine in rw (← J .hi) (F .bases d (J .second))))
+      (λ k. absurd (subst (λ (b : List ℕ). Mem x (arcsIn b .outBonds)) (no-bytes s (transitionNamed c) k) (subst (λ (a : Arcs). Mem x (a .outBonds)) (arcs-of s (transitionNamed c)) h)))
+
   -- the bonds are in order, and fit
   pub bonds-ready : (r .marking .count ≤ maxBonds) × Ascending sameBond lessBond (bondsOf (r .marking))
   bonds-ready = (placed-room s (r .marking) (placed s (r .marking) (r .firings) (r .given) (S .passed)), placed s (r .marking) (r .firings) (r .given) (S .passed) .good .order)
@@ -79,6 +91,12 @@ module _ (s : List ℕ) (r : Record) (c : List ℕ) (S : Sound s r) where
         let u = of-bases (nthEntry b i) (subst (λ (a : Arcs). Mem (nthEntry b i) (a .entries)) arcs (mem-table (entryCount b) (nthEntry b) i h)) in
         let v = few s (r .marking) (r .firings) (r .given) (S .passed) in
         omega arith
+
+    pub outs-low : (i : ℕ) → i < outCount b → Within maxBases (nthOutBond b i)
+    outs-low i h =
+        let (u, w) = outs-of-bases (nthOutBond b i) (subst (λ (a : Arcs). Mem (nthOutBond b i) (a .outBonds)) arcs (mem-table (outCount b) (nthOutBond b) i h)) in
+        let v = few s (r .marking) (r .firings) (r .given) (S .passed) in
+        (omega arith, omega arith)
 
     module _ (T : Turned s r c 13) (i : ℕ) (ei : i ≡ firstAt (awayFrom (r .marking .places)) (arcsIn b .entries)) (e : Entry) (ee : e ≡ nthEntry b i) where
       abbrev k : ℕ

@@ -7,7 +7,7 @@ use Prim.Native.Nat.{ℕ, _<_}
 use Rattle.causal.specs.Lists.{Mem}
 use Rattle.net.specs.Net.{Arcs, Marking, hasBond, place, arcsOf}
 use Rattle.net.specs.Connection.{connected}
-use Rattle.net.specs.Firing.{inSet}
+use Rattle.net.specs.Firing.{inSet, bondsSeen}
 use Rattle.net.specs.Journal.{LiveLine, lineOf, transitionNamed, keyNamed}
 use Rattle.net.specs.declared.Bond.{Bond}
 use Rattle.net.specs.declared.Entry.{Entry}
@@ -37,11 +37,11 @@ pub record IsPresent (t : Arcs) (m : Marking) (b : Bond) : Type 0 where
   pub new : hasBond b (t .inBonds) ≡ false
   pub present : hasBond b (m .bonds) ≡ true
 
--- 16: e and d are entries of the step, their parts are connected, and their out-places differ
+-- 16: e and d are entries of the step, their parts are connected by the couplings after the firing, and their out-places differ
 pub record IsTorn (t : Arcs) (m : Marking) (e d : Entry) : Type 0 where
   pub first : Mem e (t .entries)
   pub second : Mem d (t .entries)
-  pub together : connected (m .bonds) (e .base) (d .base) ≡ true
+  pub together : connected (bondsSeen t (m .bonds)) (e .base) (d .base) ≡ true
   pub apart : e .to ≡ d .to → ⊥
 
 -- 20: a live firing of key k, higher than the command's key, moved the part p, and so did the command's firing

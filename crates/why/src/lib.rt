@@ -12,6 +12,8 @@ ghost use Rattle.commands.specs.Answers.{answerNumber};
 ghost use Rattle.why.specs.Why.{awayBy, absentBy, presentBy, tornBy, notLiveBy, laterBy, reasonFor, whyOf};
 ghost use Rattle.why.specs.Turned.{Turned};
 use commands::Answer;
+use enabling::label_kept;
+use engine::join_out_bonds;
 use firings::firing_at;
 use firings::index_of;
 use firings::last_key;
@@ -22,7 +24,6 @@ use format::out_bond;
 use format::transition_bytes;
 use format::transition_count;
 use format::word_at;
-use labels::label_in;
 use net::Base;
 use net::Bond;
 use net::Entry;
@@ -141,7 +142,7 @@ fn why_present(r: Record, sheet: &[u8], bytes: &[u8]) -> Reason
     Reason::Present(b)
 }
 
-// 16: by labels of the marking's bonds.
+// 16: by labels of the bonds after the firing: those that it does not break, and its out-bonds.
 fn why_torn(r: Record, sheet: &[u8], bytes: &[u8]) -> Reason
     requires { ⌜ Turned (now sheet) r (now bytes) 16 ⌝ }
     ensures { λ y. ⌜
@@ -153,7 +154,8 @@ fn why_torn(r: Record, sheet: &[u8], bytes: &[u8]) -> Reason
     let hi = m.hi;
     let mut l = [0u8; MAX_BASES];
     let mut members = [0u64; MAX_BASES];
-    label_in(&mut l, &mut members, &lo, &hi, m.count);
+    label_kept(step, &mut l, &mut members, &lo, &hi, m.count);
+    join_out_bonds(step, &mut l, &mut members);
     let i = first_torn(step, &l);
     let e = entry(step, i);
     let k = first_partner(step, &l, e);

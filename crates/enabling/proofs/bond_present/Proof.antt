@@ -30,8 +30,8 @@ loop-holds c = (c .out-count .ensures, search needs, refl)
 out-bond-requires : tie.Need-out-bond-requires Inv-loop μ-loop
 out-bond-requires c κs = search needs
 
-is-in-bond-requires : tie.Need-is-in-bond-requires Inv-loop μ-loop
-is-in-bond-requires c κs = search needs
+is-bond-of-requires : tie.Need-is-bond-of-requires Inv-loop μ-loop
+is-bond-of-requires c κs = search needs
 
 has-bond-requires : tie.Need-has-bond-requires Inv-loop μ-loop
 has-bond-requires c κs = search needs
@@ -44,13 +44,13 @@ loop-less c = search needs
 
 loop-again : tie.Need-loop-again Inv-loop μ-loop
 loop-again c =
-    let k : tie.After-is-in-bond Inv-loop μ-loop = c .before .before .before in
+    let k : tie.After-is-bond-of Inv-loop μ-loop = c .before .before .before in
     let b : tie.After-out-bond Inv-loop μ-loop = k .before in
     let at : tie.At-loop Inv-loop μ-loop = b .before .before in
     let s = at .before .before .before in (
       search needs,
       search needs,
-      rw (at .loop .inv .2, c .has-bond .ensures, k .is-in-bond .ensures, b .out-bond .ensures)
+      rw (at .loop .inv .2, c .has-bond .ensures, k .is-bond-of .ensures, b .out-bond .ensures)
           (sym (any-more
           (λ (d : Bond). not (hasBond d (arcsIn (s .args .step .now) .inBonds)) && hasBond d (bondsIn (s .args .lo .now) (s .args .hi .now) (s .args .count)))
           (at .loop .i) (nthOutBond (s .args .step .now)))),
@@ -69,7 +69,7 @@ bond-present-spec =
     out-count-requires
     loop-holds
     out-bond-requires
-    is-in-bond-requires
+    is-bond-of-requires
     has-bond-requires
     add-i
     loop-less

@@ -2,7 +2,8 @@
 -- Assumes nothing.
 use mathlib.Core.Path.{ap, sym, _∙_}
 use borrow.Author.Needs.{needs}
-use Rattle.format.specs.Arcs.{arcsIn}
+use mathlib.Core.Bool.{not}
+use Rattle.format.specs.Sides.{sideBonds}
 use Rattle.marking.specs.declared.Marking.{Marking}
 use Rattle.marking.specs.Form.{bondsOf, withBonds}
 use Rattle.marking.specs.Held.{holdingBonds}
@@ -13,13 +14,13 @@ use Rattle.engine.proofs.take_out.Statement.{statement}
 abbrev m : tie.Start → Marking
 m s = holdingBonds (s .args .count) (s .args .lo .now) (s .args .hi .now)
 
-is-in-bond-requires : tie.Need-is-in-bond-requires
-is-in-bond-requires c κs = search needs
+is-bond-of-requires : tie.Need-is-bond-of-requires
+is-bond-of-requires c κs = search needs
 
 returns : tie.Need-returns
 returns c =
     let s = c .before .before .before in
-    s .pre .form ∙ ap (withBonds (m s)) (sym (stays-in (arcsIn (s .args .step .now)) (s .args .b) (bondsOf (m s)) (sym (c .before .is-in-bond .ensures) ∙ c .if1 .taken)))
+    s .pre .form ∙ ap (withBonds (m s)) (sym (stays-in (sideBonds (s .args .step .now) (not (s .args .out))) (s .args .b) (bondsOf (m s)) (sym (c .before .is-bond-of .ensures) ∙ c .if1 .taken)))
 
 take-bond-requires : tie.Need-take-bond-requires
 take-bond-requires c κs = c .before .before .before .before .before .pre
@@ -28,7 +29,7 @@ returns-2 : tie.Need-returns-2
 returns-2 c =
     let e : tie.Else1 = c .before .before .before in
     let s = e .before .before .before in
-    c .take-bond .ensures ∙ ap (withBonds (m s)) (sym (stays-out (arcsIn (s .args .step .now)) (s .args .b) (bondsOf (m s)) (sym (e .before .is-in-bond .ensures) ∙ e .if1 .left)))
+    c .take-bond .ensures ∙ ap (withBonds (m s)) (sym (stays-out (sideBonds (s .args .step .now) (not (s .args .out))) (s .args .b) (bondsOf (m s)) (sym (e .before .is-bond-of .ensures) ∙ e .if1 .left)))
 
 pub take-out-spec : {M : Type 1} → statement M
-take-out-spec = tie.close (tie.spec is-in-bond-requires returns take-bond-requires returns-2)
+take-out-spec = tie.close (tie.spec is-bond-of-requires returns take-bond-requires returns-2)

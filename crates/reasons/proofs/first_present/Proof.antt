@@ -33,8 +33,8 @@ loop-holds c = (c .out-count .ensures, search needs, refl)
 out-bond-requires : tie.Need-out-bond-requires Inv-loop μ-loop
 out-bond-requires c κs = search needs
 
-is-in-bond-requires : tie.Need-is-in-bond-requires Inv-loop μ-loop
-is-in-bond-requires c κs = search needs
+is-bond-of-requires : tie.Need-is-bond-of-requires Inv-loop μ-loop
+is-bond-of-requires c κs = search needs
 
 has-bond-requires : tie.Need-has-bond-requires Inv-loop μ-loop
 has-bond-requires c κs = search needs
@@ -42,7 +42,7 @@ has-bond-requires c κs = search needs
 returns : tie.Need-returns Inv-loop μ-loop
 returns c =
     let h : tie.After-has-bond Inv-loop μ-loop = c .before in
-    let k : tie.After-is-in-bond Inv-loop μ-loop = h .before .before .before in
+    let k : tie.After-is-bond-of Inv-loop μ-loop = h .before .before .before in
     let b : tie.After-out-bond Inv-loop μ-loop = k .before in
     let at : tie.At-loop Inv-loop μ-loop = b .before .before in
     let from = at .before .before .before in
@@ -50,7 +50,7 @@ returns c =
     let bs : List Bond = bondsIn (from .args .lo .now) (from .args .hi .now) (from .args .count) in
     let l : at .loop .i < outCount s = omega arith in
     first-here (presentIn (arcsIn s .inBonds) bs) (outCount s) (at .loop .i) (nthOutBond s) (at .loop .inv .2) l _ (b .out-bond .ensures)
-    (present-by (arcsIn s .inBonds) bs (b .out-bond .result) _ _ _ (k .is-in-bond .ensures) (h .has-bond .ensures) (c .if1 .taken))
+    (present-by (arcsIn s .inBonds) bs (b .out-bond .result) _ _ _ (k .is-bond-of .ensures) (h .has-bond .ensures) (c .if1 .taken))
 
 add-i : tie.Need-add-i Inv-loop μ-loop
 add-i c = search needs
@@ -61,7 +61,7 @@ loop-less c = search needs
 loop-again : tie.Need-loop-again Inv-loop μ-loop
 loop-again c =
     let h : tie.After-has-bond Inv-loop μ-loop = c .before in
-    let k : tie.After-is-in-bond Inv-loop μ-loop = h .before .before .before in
+    let k : tie.After-is-bond-of Inv-loop μ-loop = h .before .before .before in
     let b : tie.After-out-bond Inv-loop μ-loop = k .before in
     let at : tie.At-loop Inv-loop μ-loop = b .before .before in
     let from = at .before .before .before in
@@ -70,7 +70,7 @@ loop-again c =
       at .loop .inv .0,
       search needs,
       any-on (presentIn (arcsIn s .inBonds) bs) (nthOutBond s) (at .loop .i) (at .loop .inv .2) _ (b .out-bond .ensures)
-          (present-by (arcsIn s .inBonds) bs (b .out-bond .result) _ _ _ (k .is-in-bond .ensures) (h .has-bond .ensures) (c .if1 .left)),
+          (present-by (arcsIn s .inBonds) bs (b .out-bond .result) _ _ _ (k .is-bond-of .ensures) (h .has-bond .ensures) (c .if1 .left)),
     )
 
 returns-2 : tie.Need-returns-2 Inv-loop μ-loop
@@ -91,7 +91,7 @@ first-present-spec =
     out-count-requires
     loop-holds
     out-bond-requires
-    is-in-bond-requires
+    is-bond-of-requires
     has-bond-requires
     returns
     add-i

@@ -9,6 +9,7 @@ use Rattle.net.specs.Limits.{maxBases}
 use Rattle.net.specs.Tests.{any, table}
 use Rattle.net.specs.Net.{Marking}
 use Rattle.net.specs.declared.Entry.{Entry}
+use Rattle.net.specs.Firing.{bondsSeen}
 use Rattle.labels.specs.Labelled.{Parted}
 use Rattle.format.specs.Arcs.{entryCount, nthEntry, arcsIn}
 use Rattle.format.proofs.Loops.{any-on}
@@ -20,7 +21,7 @@ use Rattle.reasons.proofs.first_torn.Tie as tie
 abbrev Inv-loop : tie.InvT-loop
 Inv-loop step l n i₀ i =
     (n ≡ entryCount step) × (i ≤ n)
-    × ((s : Marking) → Parted maxBases l (s .bonds) → any (hasPartner (arcsIn step) s) (table i (nthEntry step)) ≡ false)
+    × ((s : Marking) → Parted maxBases l (bondsSeen (arcsIn step) (s .bonds)) → any (hasPartner (arcsIn step) s) (table i (nthEntry step)) ≡ false)
 
 abbrev μ-loop : tie.MeasureT-loop
 μ-loop step l n i₀ i = n - i

@@ -1,7 +1,7 @@
 -- `sheet_bonds::bonds_ascend` meets its contract.
 -- Assumes nothing.
 use Rattle.format.proofs.Loops.{self, below, ascends-on, ascends-left, ascends-end}
-use Rattle.sheet_bonds.specs.Sides.{bondCount, nthBond}
+use Rattle.format.specs.Sides.{bondCount, nthBond}
 use Rattle.net.specs.Net.{lessBond}
 use Rattle.net.specs.Tests.{all, table}
 use mathlib.Core.Bool.{true}

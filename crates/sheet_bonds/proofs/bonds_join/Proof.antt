@@ -1,7 +1,8 @@
 -- `sheet_bonds::bonds_join` meets its contract.
 -- Assumes nothing.
 use Rattle.format.proofs.Loops.{all-on, all-left, all-end}
-use Rattle.sheet_bonds.specs.Sides.{sideOf, bondCount, nthBond}
+use Rattle.format.specs.Sides.{bondCount, nthBond}
+use Rattle.sheet_bonds.specs.Sides.{sideOf}
 use Rattle.format.specs.Arcs.{arcsIn}
 use Rattle.net.specs.Rules.{joins}
 use Rattle.net.specs.Tests.{all, table}

@@ -1,6 +1,6 @@
 -- `sheet_bonds::wrong_bonds` meets its contract.
 -- Assumes nothing.
-use Rattle.sheet_bonds.proofs.Tests.{in-wrong, out-wrong, kept-wrong}
+use Rattle.sheet_bonds.proofs.Tests.{in-wrong, out-wrong}
 use borrow.Author.Tests.{not-true, not-false}
 use mathlib.Core.Path.{sym, _∙_}
 use borrow.Author.Needs.{needs}
@@ -17,21 +17,7 @@ bonds-good-requires-2 : tie.Need-bonds-good-requires-2
 bonds-good-requires-2 c κs = search needs
 
 returns-2 : tie.Need-returns-2
-returns-2 c = out-wrong _ (sym (c .before .before .before .bonds-good .ensures) ∙ not-false _ (c .before .before .if1 .left)) (sym (c .before .bonds-good2 .ensures) ∙ not-true _ (c .if2 .taken))
-
-bonds-kept-requires : tie.Need-bonds-kept-requires
-bonds-kept-requires c κs = search needs
-
-returns-3 : tie.Need-returns-3
-returns-3 c = kept-wrong _ (sym (c .before .before .before .before .bonds-good .ensures) ∙ not-false _ (c .before .before .before .if1 .left)) (sym (c .before .before .bonds-good2 .ensures) ∙ not-false _ (c .before .if2 .left)) _ (c .bonds-kept .ensures)
+returns-2 c = out-wrong _ (sym (c .before .before .bonds-good .ensures) ∙ not-false _ (c .before .if1 .left)) _ (c .bonds-good2 .ensures)
 
 pub wrong-bonds-spec : {M : Type 1} → statement M
-wrong-bonds-spec =
-    tie.close
-    (tie.spec
-    bonds-good-requires
-    returns
-    bonds-good-requires-2
-    returns-2
-    bonds-kept-requires
-    returns-3)
+wrong-bonds-spec = tie.close (tie.spec bonds-good-requires returns bonds-good-requires-2 returns-2)

@@ -17,8 +17,8 @@ use Rattle.marking.specs.declared.Marking.{Marking}
 use Rattle.marking.specs.Form.{markingOf}
 use Rattle.marking.specs.Held.{holding}
 use Rattle.enabling.specs.Ready.{Ready}
-use Rattle.enabling.proofs.Readiness.{room, places-length, entries-near, entries-low}
-use Rattle.steps.proofs.Refusals.{ready-at, on-net, refused-12, refused-13, refused-14, refused-15, refused-16, enabled}
+use Rattle.enabling.proofs.Readiness.{room, ends-low, places-length, entries-near, entries-low}
+use Rattle.steps.proofs.Refusals.{ready-at, on-net, torn-at, refused-12, refused-13, refused-14, refused-15, refused-16, enabled}
 use Rattle.steps.proofs.enable_refusal.Tie as tie
 use Rattle.steps.proofs.enable_refusal.Statement.{statement}
 
@@ -99,7 +99,9 @@ passed-15 c = sym (test-15 (c .before)) ∙ c .if4 .left
 test-16 : (c : tie.After-torn-apart) → c .torn-apart .result ≡ tornApart (arcs (at-16 (c .before))) (seen (at-16 (c .before)))
 test-16 c =
     let a = at-16 (c .before) in
-    c .torn-apart .ensures (markingOf (bases a) (held (start a))) (start a .pre .1) ∙ net-test tornApart a
+    c .torn-apart .ensures
+    ∙ torn-at (sheet a) (held (start a)) (given a) (bases a) (bytes a) (a .before .before .before .before .base-count .ensures) (a .transition-bytes .ensures) (start a .pre .0) (listed a)
+    ∙ net-test tornApart a
 
 base-count-requires : tie.Need-base-count-requires
 base-count-requires c κs = search needs
@@ -151,7 +153,7 @@ torn-apart-requires : tie.Need-torn-apart-requires
 torn-apart-requires c κs =
     let a = at-16 c in
     let R = ready-of a in
-    (places-length _ _ _ R, entries-low (bases a) (bytes a) (held (start a)) R)
+    ((places-length _ _ _ R, room _ _ _ R, R .order), (ends-low _ _ _ R, (entries-low (bases a) (bytes a) (held (start a)) R, start a .pre .1)))
 
 returns-5 : tie.Need-returns-5
 returns-5 c =

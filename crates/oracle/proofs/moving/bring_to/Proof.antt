@@ -8,25 +8,22 @@ use Rattle.oracle.proofs.moving.bring_to.Statement.{statement}
 use Rattle.oracle.proofs.moving.bring_to.Tie as tie
 
 abbrev Inv-loop : tie.InvT-loop
-Inv-loop s₀ place source old-place set r₀ s r = (r ≤ 65) × (length s ≡ length s₀)
+Inv-loop s₀ x set r₀ s r = (r ≤ 65) × (length s ≡ length s₀)
 
 abbrev μ-loop : tie.MeasureT-loop
-μ-loop s₀ place source old-place set r₀ s r = 65 - r
+μ-loop s₀ x set r₀ s r = 65 - r
 
 loop-holds : tie.Need-loop-holds Inv-loop μ-loop
 loop-holds c = search needs
 
-mul-word-at : tie.Need-mul-word-at Inv-loop μ-loop
-mul-word-at c = search needs
-
-add-word-at : tie.Need-add-word-at Inv-loop μ-loop
-add-word-at c = search needs
-
-word-at-requires : tie.Need-word-at-requires Inv-loop μ-loop
-word-at-requires c κs = search needs
-
 cell-requires : tie.Need-cell-requires Inv-loop μ-loop
 cell-requires c κs = search needs
+
+get-requires : tie.Need-get-requires Inv-loop μ-loop
+get-requires c κs = search needs
+
+cell-requires-2 : tie.Need-cell-requires-2 Inv-loop μ-loop
+cell-requires-2 c κs = search needs
 
 brought-requires : tie.Need-brought-requires Inv-loop μ-loop
 brought-requires c κs = search needs
@@ -56,10 +53,9 @@ bring-to-spec =
     Inv-loop
     μ-loop
     loop-holds
-    mul-word-at
-    add-word-at
-    word-at-requires
     cell-requires
+    get-requires
+    cell-requires-2
     brought-requires
     join-requires
     add-r

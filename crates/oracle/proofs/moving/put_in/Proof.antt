@@ -8,10 +8,10 @@ use Rattle.oracle.proofs.moving.put_in.Statement.{statement}
 use Rattle.oracle.proofs.moving.put_in.Tie as tie
 
 abbrev Inv-loop : tie.InvT-loop
-Inv-loop s₀ source from to n i₀ s i = (i ≤ n) × (length s ≡ length s₀)
+Inv-loop s₀ from to n i₀ s i = (i ≤ n) × (length s ≡ length s₀)
 
 abbrev μ-loop : tie.MeasureT-loop
-μ-loop s₀ source from to n i₀ s i = n - i
+μ-loop s₀ from to n i₀ s i = n - i
 
 size-requires : tie.Need-size-requires Inv-loop μ-loop
 size-requires c κs = search needs

@@ -8,10 +8,10 @@ use Rattle.oracle.proofs.moving.settle.Statement.{statement}
 use Rattle.oracle.proofs.moving.settle.Tie as tie
 
 abbrev Inv-loop : tie.InvT-loop
-Inv-loop s₀ labels n i₀ s i = (i ≤ n) × (length s ≡ length s₀)
+Inv-loop s₀ n i₀ s i = (i ≤ n) × (length s ≡ length s₀)
 
 abbrev μ-loop : tie.MeasureT-loop
-μ-loop s₀ labels n i₀ s i = n - i
+μ-loop s₀ n i₀ s i = n - i
 
 size-requires : tie.Need-size-requires Inv-loop μ-loop
 size-requires c κs = search needs
@@ -24,9 +24,6 @@ at-requires c κs = search needs
 
 word-at-requires : tie.Need-word-at-requires Inv-loop μ-loop
 word-at-requires c κs = search needs
-
-word-at-requires-2 : tie.Need-word-at-requires-2 Inv-loop μ-loop
-word-at-requires-2 c κs = search needs
 
 put-requires : tie.Need-put-requires Inv-loop μ-loop
 put-requires c κs = search needs
@@ -56,7 +53,6 @@ settle-spec =
     loop-holds
     at-requires
     word-at-requires
-    word-at-requires-2
     put-requires
     add-i
     loop-less
