@@ -13,6 +13,7 @@ use Rattle.claims.proofs.Pages.{pages}
 use Rattle.claims.proofs.Blocks.{blocks}
 use Rattle.claims.proofs.WayBack.{ways}
 use Rattle.claims.proofs.Lamps.{lamps-claimed}
+use Rattle.claims.proofs.Spread.{spreads}
 use Rattle.claims.proofs.Serials.{serials}
 
 pub demands : Demands
@@ -31,4 +32,5 @@ demands = record {
   blocks = blocks;
   ways = ways;
   lamps = lamps-claimed;
+  spreads = spreads;
 }

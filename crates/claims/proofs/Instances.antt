@@ -26,6 +26,8 @@ use Rattle.tally.specs.declared.Tally.{Tally}
 use Rattle.way_back.specs.Ways.{wayBack}
 use Rattle.way_back.specs.Answer.{wayOf, wayChecks}
 use Rattle.way_back.specs.declared.WayBack.{WayBack}
+use Rattle.spread.specs.Depends.{spreadOf}
+use Rattle.spread.specs.Spread.{told, ownChecks}
 use Rattle.session.specs.Records.{heldIn, soundFor, Sound}
 use Rattle.session.specs.Commands.{freshOf, zeroRecord, startOf, commandOf}
 use Rattle.commands.specs.Answers.{answerOf, wordOf, valueOf}
@@ -33,6 +35,7 @@ use Rattle.session.specs.Runs.{Answered, answered}
 use Rattle.session.specs.Block.{blockChecks, blockOf}
 use Rattle.session.specs.Lamps.{canUndo}
 use Rattle.session.specs.Ways.{wayBackChecks, wayBackOf}
+use Rattle.session.specs.Spread.{spreadChecks, spreadFor}
 use Rattle.session.specs.declared.Record.{Record}
 use Rattle.session.specs.declared.StartAnswer.the-variants.{NotStarted}
 use Rattle.session.proofs.Begins.{fresh-sound}
@@ -40,6 +43,7 @@ use Rattle.claims.specs.Sessions.{sessionAfter}
 use Rattle.claims.specs.States.{marksIn, historyIn, orderIn}
 use Rattle.claims.specs.Published.{CommandFires, CommandTakesBack, RecordAsPublished, FollowsPublished}
 use Rattle.claims.specs.WayBack.{keysGiven, Smallest}
+use Rattle.claims.specs.Spread.{Slip}
 use Rattle.claims.specs.Demands.{Demand3}
 use Rattle.claims.proofs.Records.{answer-is}
 use Rattle.claims.proofs.Published.{holds, session-passes}
@@ -174,3 +178,20 @@ lit-B t = let L = demands .lamps sheetB (recordB firings t) t in (L .says (key 2
 
 pub dark-B : (t : Tally) → canUndo sheetB (recordB firings t) (key 1) ≡ false
 dark-B t = fails (canUndo sheetB (recordB firings t) (key 1)) (λ e. no-refusal 20 (sym (answer-B firings t (undoOf 1)) ∙ demands .lamps sheetB (recordB firings t) t .says (key 1) .0 e))
+
+-- ---- T-08: after M4 on sheet B, 1 spreads to what it and 2 moved, the bases 0, 2 and 3; base 1, which 3 moved, is outside
+
+spread-passes : (t : Tally) → clear (spreadChecks sheetB (recordB firings t) (key 1)) ≡ true
+spread-passes t =
+    let own : clear (ownChecks (heldIn sheetB (recordB firings t) .lines) (key 1)) ≡ true =
+    ap (λ (j : Journal). clear (ownChecks (j .lines) (key 1))) (held-B t) ∙ ap (λ (n : Net). clear (ownChecks (play n firings (begin n) .lines) (key 1))) sheetB-net in
+    clear-append (sheetChecks sheetB) _ ∙ rw (accepted-B, passes-B firings t) own
+
+pub spread-B : (t : Tally) → spreadFor sheetB (recordB firings t) (key 1) ≡ told (true ∷ false ∷ true ∷ true ∷ [])
+unfolding spreadFor
+spread-B t =
+    rw (spread-passes t)
+    (ap told (ap (λ (j : Journal). spreadOf (key 1) (j .lines)) (held-B t) ∙ ap (λ (n : Net). spreadOf (key 1) (play n firings (begin n) .lines)) sheetB-net))
+
+pub slip-B : (t : Tally) → Slip sheetB (recordB firings t) (key 1) t
+slip-B t = demands .spreads sheetB (recordB firings t) (key 1) t .told (spread-passes t)

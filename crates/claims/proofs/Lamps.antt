@@ -122,12 +122,15 @@ module _ (s : List ℕ) (r : Record) where
     unfolding netOf
     sizes l m = let a = run-flags (netOf s) ls (netOf s .start) (j .marking) (held .run) l m in let b = promised s accepted .bases .1 in omega arith
 
-    below : (l : LiveLine) → Mem l ls → (p : ℕ) → inSet (l .moved) p ≡ true → p < maxBases
+    pub below : (l : LiveLine) → Mem l ls → (p : ℕ) → inSet (l .moved) p ≡ true → p < maxBases
     below l m p e = test (ltb p maxBases) (λ q. ltb-true p maxBases q)
         (λ q. let a = ltb-false p maxBases q in let b = sizes l m in both (inSet (l .moved) p) e (List·getD-eq-default (l .moved) false (let c : length (l .moved) ≤ p = omega arith in c)))
 
     lit-is : (k : Key) → lit k ≡ clear (undoChecks j k)
     lit-is k = ap (λ (t : List ℕ). lamp maxBases t ls k) movers-are ∙ lamp-says maxBases j (held .up) sizes k
+
+    pub can-undo-is : (k : Key) → canUndo s r k ≡ clear (undoChecks (heldIn s r) k)
+    can-undo-is k = asked true h k ∙ lit-is k
 
     comes-off : (t : Tally) (k : Key) → lit k ≡ true → ComesOff s r t k
     comes-off t k e = answer-is s accepted rule r sound t (undoCommand k) ∙ ap (λ (y : Reply). answerOf (y .answer)) (act-undoes (netOf s) j k (sym (lit-is k) ∙ e))

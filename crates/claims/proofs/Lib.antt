@@ -13,6 +13,7 @@ pub mod Blocks
 pub mod Serials
 pub mod WayBack
 pub mod Lamps
+pub mod Spread
 pub mod Demands
 pub mod Instances
 pub mod Clutch

@@ -23,12 +23,12 @@ use Rattle.tally.specs.declared.Tally.{Tally}
 use Rattle.session.specs.Records.{recordOf}
 use Rattle.session.specs.Runs.{answered}
 use Rattle.session.proofs.Steps.{follows-fresh}
-use Rattle.claims.specs.Sessions.{journalAfter}
-use Rattle.claims.specs.Demands.{ForwardRun, Demand3}
+use Rattle.claims.specs.Sessions.{journalAfter, ForwardRun}
+use Rattle.claims.specs.Demands.{Demand3}
 
 module _ (s : List ℕ) (accepted : clear (sheetChecks s) ≡ true) (ok : netRule (netOf s) ≡ true) where
   -- a forward run of the journal is one of the record
-  forward : (ls : List LiveLine) (z : _) → Forward (netOf s) ls z → (t : Tally) → ForwardRun s ls z t
+  pub forward : (ls : List LiveLine) (z : _) → Forward (netOf s) ls z → (t : Tally) → ForwardRun s ls z t
   forward ls z F t =
       let y = follows-fresh s accepted (fireCommands ls) t in
       record { fired = y .answers ∙ ap (map answered) (F .answer); session = y .session ∙ ap recordOf (F .journal); journal = F .journal }

@@ -92,6 +92,37 @@ module _ (s : List ℕ) (accepted : clear (sheetChecks s) ≡ true) (ok : netRul
         answers-are = λ i. record { answer = answer-is s accepted ok r h t c i; key = key-is s accepted ok r h t c i } ∷ (ih .answers-are ∙ ap (λ (j : Journal). map answered (answers (netOf s) cs j)) e) i;
       }
 
+  -- ---- sets of the record and of the journal
+
+  module _ (r : Record) (passes : soundFor s r ≡ true) (t : Tally) where
+    abbrev of : Journal
+    of = heldIn s r
+
+    pub taken : (f : Key → Bool) (z : Record) → CanGo s r t f z → TakenBack (netOf s) of f (heldIn s z .marking)
+    taken f z g =
+        let y = ran (undoCommands (g .order)) r t passes in
+        record {
+          order = g .order;
+          only = g .only;
+          every = λ l m e. g .every (l .key) (line-live (of .lines) l (l .key) m refl) e;
+          accepted = all-heard (g .order) (answers (netOf s) (undoCommands (g .order)) of) (answers-many (netOf s) (g .order) of) (sym (y .answers-are) ∙ g .accepted);
+          gives = ap (λ (i : Journal). i .marking) (sym (y .held) ∙ ap (heldIn s) (g .gives));
+        }
+
+    pub can-go : (f : Key → Bool) (z : Marking) (T : TakenBack (netOf s) of f z) → CanGo s r t f (runOf s (undoCommands (T .order)) r t .session)
+    can-go f z T =
+        let y = ran (undoCommands (T .order)) r t passes in
+        record {
+          order = T .order;
+          only = T .only;
+          every = λ k h e.
+              let (m, q) = live-line (of .lines) k h in
+              let d : lineOf k (of .lines) .key ≡ k = λ i. record { 0 = q i } in
+              subst (λ (i : Key). Mem i (T .order)) d (T .every (lineOf k (of .lines)) m (ap f d ∙ e));
+          accepted = y .answers-are ∙ ap (map answered) (T .accepted) ∙ told (T .order);
+          gives = refl;
+        }
+
   module _ (r : Record) (passes : soundFor s r ≡ true) (w : List ℕ) (t : Tally) where
     abbrev j : Journal
     j = heldIn s r
@@ -117,41 +148,14 @@ module _ (s : List ℕ) (accepted : clear (sheetChecks s) ≡ true) (ok : netRul
         let q : getD (heldIn s z .marking .places) p 0 ≡ getD w p 0 = getD-take (basesOf s) (z .marking .places) p 0 h ∙ a p h (eqb-false (getD w p 0) anyPlace e) in
         rw (e, eq-eqb (getD (heldIn s z .marking .places) p 0) (getD w p 0) q))
 
-    -- ---- sets of the record and of the journal
-
-    taken : (f : Key → Bool) (z : Record) → CanGo s r t f z → TakenBack (netOf s) j f (heldIn s z .marking)
-    taken f z g =
-        let y = ran (undoCommands (g .order)) r t passes in
-        record {
-          order = g .order;
-          only = g .only;
-          every = λ l m e. g .every (l .key) (line-live (j .lines) l (l .key) m refl) e;
-          accepted = all-heard (g .order) (answers (netOf s) (undoCommands (g .order)) j) (answers-many (netOf s) (g .order) j) (sym (y .answers-are) ∙ g .accepted);
-          gives = ap (λ (i : Journal). i .marking) (sym (y .held) ∙ ap (heldIn s) (g .gives));
-        }
-
-    can-go : (f : Key → Bool) (z : Marking) (T : TakenBack (netOf s) j f z) → CanGo s r t f (runOf s (undoCommands (T .order)) r t .session)
-    can-go f z T =
-        let y = ran (undoCommands (T .order)) r t passes in
-        record {
-          order = T .order;
-          only = T .only;
-          every = λ k h e.
-              let (m, q) = live-line (j .lines) k h in
-              let d : lineOf k (j .lines) .key ≡ k = λ i. record { 0 = q i } in
-              subst (λ (i : Key). Mem i (T .order)) d (T .every (lineOf k (j .lines)) m (ap f d ∙ e));
-          accepted = y .answers-are ∙ ap (map answered) (T .accepted) ∙ told (T .order);
-          gives = refl;
-        }
-
     has-effect : (f : Key → Bool) → Serves s r t w f → HasEffect (netOf s) w j f
-    has-effect f (z, g, a) = (heldIn s z .marking, taken f z g, at-places z a)
+    has-effect f (z, g, a) = (heldIn s z .marking, taken r passes t f z g, at-places z a)
 
     serves : (f : Key → Bool) → HasEffect (netOf s) w j f → Serves s r t w f
     serves f (z, T, at) =
         let y = ran (undoCommands (T .order)) r t passes in
         let x : Record = runOf s (undoCommands (T .order)) r t .session in
-        (x, can-go f z T, arranged x (subst (AtPlaces (netOf s) w) (sym (ap (λ (i : Journal). i .marking) (y .held) ∙ T .gives)) at))
+        (x, can-go r passes t f z T, arranged x (subst (AtPlaces (netOf s) w) (sym (ap (λ (i : Journal). i .marking) (y .held) ∙ T .gives)) at))
 
     pub smallest : noWay (netOf s) w j ≡ false → Smallest s r t w (wayBack (netOf s) w j)
     smallest e =

@@ -13,14 +13,14 @@ use lib.ListN.{length, getD}
 use Rattle.causal.specs.Lists.{Mem}
 use Rattle.causal.specs.Reorderings.{Reordering}
 use Rattle.net.specs.Limits.{maxBases}
-use Rattle.net.specs.Net.{Marking}
 use Rattle.net.specs.Checks.{Check, check, clear, first}
 use Rattle.net.specs.Firing.{inSet}
 use Rattle.net.specs.Connection.{Leads, connected}
 use Rattle.net.specs.Journal.{LiveLine, key, kindOf, transitionNamed, keyNamed, fireReply, undoReply, begin, answers}
 use Rattle.net.specs.History.{linesInForm}
-use Rattle.net.specs.Claims.{fireCommands, numbered, allFired, Totals}
+use Rattle.net.specs.Claims.{Totals}
 use Rattle.net.specs.declared.Bond.{Bond}
+use Rattle.net.specs.declared.Key.{Key}
 use Rattle.published.specs.Sets.{Iff}
 use Rattle.format.specs.NetOf.{netOf}
 use Rattle.sheet.specs.Checks.{sheetChecks, checked, sheetNumber}
@@ -34,7 +34,7 @@ use Rattle.commands.specs.Answers.{answerNumber}
 use Rattle.session.specs.Runs.{answered}
 use Rattle.session.specs.declared.StartAnswer.the-variants.{Started, NotStarted}
 use Rattle.commands.specs.declared.Answer.the-variants.{Refused}
-use Rattle.claims.specs.Sessions.{journalAfter, sessionAfter}
+use Rattle.claims.specs.Sessions.{journalAfter, sessionAfter, ForwardRun}
 use Rattle.firings.specs.declared.Firing.{Firing}
 use Rattle.claims.specs.Published.{Demand2Published}
 use Rattle.claims.specs.Pages.{Pages}
@@ -42,6 +42,7 @@ use Rattle.claims.specs.Blocks.{Blocks}
 use Rattle.claims.specs.Serials.{Serials}
 use Rattle.claims.specs.WayBack.{Ways}
 use Rattle.claims.specs.Lamps.{Lamps}
+use Rattle.claims.specs.Spread.{Spreads}
 
 -- ---- What the definitions of firing rest on
 
@@ -102,15 +103,6 @@ pub record Demand2 (s : List ℕ) (r : Record) (t : Tally) (c : List ℕ) : Type
 
 -- ---- Demand 3: one claim about a whole list of commands on an accepted sheet, from a fresh record
 
--- The lines' transitions, given as commands of kind 1 and nothing else from another fresh record, with any tally: each is
--- answered `fired`, each moves the bases on its line, and the record ends in exactly the marking z. The run's keys are its own, from
--- 1 up, and its highest given is the number of lines (02, T-03).
-pub record ForwardRun (s : List ℕ) (ls : List LiveLine) (z : Marking) (t : Tally) : Type 0 where
-  pub fired : sessionAfter s (fireCommands ls) t .answers ≡ map answered (allFired 0 ls)
-  pub session : sessionAfter s (fireCommands ls) t .session ≡ recordOf (record { marking = z; lines = numbered 0 ls; given = key (length ls) })
-  -- and so does the run's own journal
-  pub journal : journalAfter s (fireCommands ls) ≡ record { marking = z; lines = numbered 0 ls; given = key (length ls) }
-
 pub record Demand3 (s : List ℕ) (cs : List (List ℕ)) (t : Tally) : Type 0 where
   -- the record is the journal in the record's form, and each answer was the journal's
   pub session : sessionAfter s cs t .session ≡ recordOf (journalAfter s cs)
@@ -167,3 +159,4 @@ pub record Demands : Type 0 where
   pub blocks : (s : List ℕ) (r : Record) (t : Tally) (b words values : List ℕ) → Blocks s r t b words values
   pub ways : (s : List ℕ) (r : Record) (w : List ℕ) (t : Tally) → Ways s r w t
   pub lamps : (s : List ℕ) (r : Record) (t : Tally) → Lamps s r t
+  pub spreads : (s : List ℕ) (r : Record) (k : Key) (t : Tally) → Spreads s r k t

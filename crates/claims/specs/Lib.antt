@@ -8,4 +8,5 @@ pub mod Blocks
 pub mod Serials
 pub mod WayBack
 pub mod Lamps
+pub mod Spread
 pub mod Demands

@@ -12,7 +12,7 @@ pub enum Order {
 }
 
 // A question: about the record, about the last refusal, about the sheet with some bytes changed or cut short, for a page of
-// the live firings or a row of it, and about what can come off.
+// the live firings or a row of it, about what can come off, and about how far a firing spreads.
 pub enum Question {
     Where,
     Couplings,
@@ -28,6 +28,7 @@ pub enum Question {
     Lamp(u16),
     Lamps,
     Movers,
+    Spread(u16),
 }
 
 pub enum Form {
@@ -96,7 +97,7 @@ fn page_form(line: &[u8]) -> Form {
     changed_form(line)
 }
 
-// What can come off, and which firing moved each part last.
+// What can come off, which firing moved each part last, and how far a firing spreads.
 fn lamp_form(line: &[u8]) -> Form {
     if is(line, b"lamp 65535") {
         return Form::Asks(Question::Lamp(number(line, 0)));
@@ -106,6 +107,9 @@ fn lamp_form(line: &[u8]) -> Form {
     }
     if is(line, b"movers") {
         return Form::Asks(Question::Movers);
+    }
+    if is(line, b"spread 65535") {
+        return Form::Asks(Question::Spread(number(line, 0)));
     }
     page_form(line)
 }

@@ -1,5 +1,5 @@
-// Questions about what can come off (document 02, T-06): the lamp of a serial, the serials whose lamp is lit, and for each part the last
-// live firing that moved it. The lamps are the customer's calls.
+// Questions about what can come off (document 02, T-06): the lamp of a serial, the serials whose lamp is lit, for each part the last live
+// firing that moved it; and how far one firing spreads (T-08). The lamps and the spread are the customer's calls.
 use crate::answer::put_if;
 use crate::put::put_count;
 use crate::put::put_text;
@@ -8,6 +8,7 @@ use net::Key;
 use net::MAX_BASES;
 use net::MAX_LIVE;
 use session::Record;
+use spread::SpreadAnswer;
 
 // `lamp yes` or `lamp no`.
 pub fn put_lamp(buf: &mut [u8], r: Record, sheet: &[u8], key: u16) -> usize {
@@ -51,4 +52,26 @@ pub fn put_movers(buf: &mut [u8], r: Record, n: usize) -> usize {
         p += 1;
     }
     pos
+}
+
+// `spread` and the parts of a set.
+fn put_reached(buf: &mut [u8], parts: [bool; MAX_BASES]) -> usize {
+    let mut pos = put_text(buf, 0, b"spread");
+    let mut p = 0;
+    while p < MAX_BASES {
+        pos = put_if(buf, pos, parts[p], p);
+        p += 1;
+    }
+    pos
+}
+
+// The parts moved by the firing of a serial or by one that depends on it, or `refused N`.
+pub fn put_spread(buf: &mut [u8], r: Record, sheet: &[u8], key: u16) -> usize {
+    let told = r.spread(sheet, Key(key));
+    let parts = told.parts;
+    let a = told.answer;
+    match a {
+        SpreadAnswer::Told => put_reached(buf, parts),
+        SpreadAnswer::Refused(n) => put_count(buf, 0, b"refused", n as usize),
+    }
 }

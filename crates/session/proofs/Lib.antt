@@ -10,4 +10,5 @@ pub mod Lending
 pub mod Listing
 pub mod Asking
 pub mod Lamps
+pub mod Spread
 pub mod Blocks

@@ -5,6 +5,7 @@ pub mod Lent
 pub mod Live
 pub mod Ways
 pub mod Lamps
+pub mod Spread
 pub mod Runs
 pub mod Lists
 pub mod Block

@@ -4,6 +4,7 @@ pub mod block;
 mod lamp;
 mod live;
 pub mod run;
+mod slip;
 mod ways;
 
 ghost use mathlib.Core.Path.{_≡_};

@@ -18,8 +18,8 @@ packed (b ∷ l) = packed l * 2 + pick b 1 0
 
 -- what is in one set or the other
 abbrev pub either : List Bool → List Bool → List Bool
-either [] n = []
-either (a ∷ m) [] = []
+either [] n = n
+either (a ∷ m) [] = a ∷ m
 either (a ∷ m) (b ∷ n) = (a || b) ∷ either m n
 
 -- what is in both sets

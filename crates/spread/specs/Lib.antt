@@ -1,0 +1,3 @@
+-- How far one firing spreads.
+pub mod Depends
+pub mod Spread

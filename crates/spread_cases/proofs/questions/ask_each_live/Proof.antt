@@ -1,0 +1,49 @@
+-- `spread_cases::questions::ask_each_live` is safe and ends. Lent slices keep their length.
+-- Assumes nothing.
+use borrow.Author.Needs.{needs}
+use mathlib.Core.Path.{_≡_}
+use Prim.Native.Nat.{_-_}
+use lib.ListN.{length}
+use Rattle.spread_cases.proofs.questions.ask_each_live.Statement.{statement}
+use Rattle.spread_cases.proofs.questions.ask_each_live.Tie as tie
+
+abbrev Inv-loop : tie.InvT-loop
+Inv-loop c₀ r sheet h table n i₀ c i = length c ≡ length c₀
+
+abbrev μ-loop : tie.MeasureT-loop
+μ-loop c₀ r sheet h table n i₀ c i = n - i
+
+loop-holds : tie.Need-loop-holds Inv-loop μ-loop
+loop-holds c = search needs
+
+ask-live-requires : tie.Need-ask-live-requires Inv-loop μ-loop
+ask-live-requires c κs = search needs
+
+add-i : tie.Need-add-i Inv-loop μ-loop
+add-i c = search needs
+
+loop-less : tie.Need-loop-less Inv-loop μ-loop
+loop-less c = search needs
+
+loop-again : tie.Need-loop-again Inv-loop μ-loop
+loop-again c = search needs
+
+same-length : tie.Need-same-length Inv-loop μ-loop
+same-length c = search needs
+
+returns : tie.Need-returns Inv-loop μ-loop
+returns c = search needs
+
+pub ask-each-live-spec : {M : Type 1} → statement M
+ask-each-live-spec =
+    tie.close
+    (tie.spec
+    Inv-loop
+    μ-loop
+    loop-holds
+    ask-live-requires
+    add-i
+    loop-less
+    loop-again
+    same-length
+    returns)
