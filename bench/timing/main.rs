@@ -27,8 +27,11 @@ const WHOLE: [(&str, &str); 15] = [
     ("refused", "200 live, then refusals only"),
 ];
 
-/// The way back to the start: an input, what it is, and how often the program is to ask in a run.
-const WAYS: [(&str, &str, usize); 4] = [
+/// A question at 256 live: an input, what it is, and how often the program is told to ask in a run.
+type Asked<'a> = (&'a str, &'a str, usize);
+
+/// The way back to the start.
+const WAYS: [Asked; 4] = [
     ("single_before", "nothing has to go", 10),
     (
         "way_parts",
@@ -43,8 +46,22 @@ const WAYS: [(&str, &str, usize); 4] = [
     ),
 ];
 
-/// How often the timed program asks for the way back where it is told once.
-const WAY_CALLS: usize = 10;
+/// The listing of the live firings.
+const LISTINGS: [Asked; 2] = [
+    (
+        "single_before",
+        "64 parts moved four times each by steps of their own",
+        10,
+    ),
+    (
+        "way_wide",
+        "each depends on all before it, steps of 64 entries",
+        10,
+    ),
+];
+
+/// How often the timed program asks where it is told once.
+const CALLS: usize = 10;
 
 /// The plain program ends in milliseconds, so it runs more often for a steady time.
 const PLAIN_RUNS: usize = 10;
@@ -140,15 +157,15 @@ impl Bench {
         println!("Less one single call, the block takes {share:.2} times what `run` takes.");
     }
 
-    /// The way back to the start at 256 live: a table of times alone, less what the firings take.
-    fn ways(&self, timed: &Path) {
+    /// A question at 256 live, asked by a word: a table of times alone, less what the firings take.
+    fn asked(&self, timed: &Path, question: &str, word: &str, rows: &[Asked]) {
         println!();
-        println!("| the way back at 256 live | µs |");
+        println!("| {question} at 256 live | µs |");
         println!("|---|---|");
-        for (input, what, asks) in WAYS {
+        for &(input, what, asks) in rows {
             let best = |way| self.alone((timed, &vec![way; asks]), input, asks * self.repeats);
-            let less = best("way").saturating_sub(best("blocks"));
-            let calls = (WAY_CALLS * asks) as f64;
+            let less = best(word).saturating_sub(best("blocks"));
+            let calls = (CALLS * asks) as f64;
             println!("| {what} | {:.0} |", micros(less) / calls);
         }
     }
@@ -226,5 +243,6 @@ fn main() {
     );
     println!("and {single} commands less that of the firings alone, divided by {single}.");
     bench.blocks(timed, less.0 / single as u32);
-    bench.ways(timed);
+    bench.asked(timed, "the way back", "way", &WAYS);
+    bench.asked(timed, "the listing", "listing", &LISTINGS);
 }

@@ -14,6 +14,7 @@ use Rattle.claims.proofs.Blocks.{blocks}
 use Rattle.claims.proofs.WayBack.{ways}
 use Rattle.claims.proofs.Lamps.{lamps-claimed}
 use Rattle.claims.proofs.Spread.{spreads}
+use Rattle.claims.proofs.Listing.{listings}
 use Rattle.claims.proofs.Serials.{serials}
 
 pub demands : Demands
@@ -33,4 +34,5 @@ demands = record {
   ways = ways;
   lamps = lamps-claimed;
   spreads = spreads;
+  listings = listings;
 }

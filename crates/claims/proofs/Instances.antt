@@ -26,16 +26,19 @@ use Rattle.tally.specs.declared.Tally.{Tally}
 use Rattle.way_back.specs.Ways.{wayBack}
 use Rattle.way_back.specs.Answer.{wayOf, wayChecks}
 use Rattle.way_back.specs.declared.WayBack.{WayBack}
+use Rattle.listing.specs.First.{listing}
+use Rattle.listing.specs.Listing.{listingOf}
 use Rattle.spread.specs.Depends.{spreadOf}
 use Rattle.spread.specs.Spread.{told, ownChecks}
 use Rattle.session.specs.Records.{heldIn, soundFor, Sound}
-use Rattle.session.specs.Commands.{freshOf, zeroRecord, startOf, commandOf}
+use Rattle.session.specs.Commands.{freshOf, zeroRecord, startOf, recordChecks, commandOf}
 use Rattle.commands.specs.Answers.{answerOf, wordOf, valueOf}
 use Rattle.session.specs.Runs.{Answered, answered}
 use Rattle.session.specs.Block.{blockChecks, blockOf}
 use Rattle.session.specs.Lamps.{canUndo}
 use Rattle.session.specs.Ways.{wayBackChecks, wayBackOf}
 use Rattle.session.specs.Spread.{spreadChecks, spreadFor}
+use Rattle.session.specs.Listing.{listingFor}
 use Rattle.session.specs.declared.Record.{Record}
 use Rattle.session.specs.declared.StartAnswer.the-variants.{NotStarted}
 use Rattle.session.proofs.Begins.{fresh-sound}
@@ -44,6 +47,7 @@ use Rattle.claims.specs.States.{marksIn, historyIn, orderIn}
 use Rattle.claims.specs.Published.{CommandFires, CommandTakesBack, RecordAsPublished, FollowsPublished}
 use Rattle.claims.specs.WayBack.{keysGiven, Smallest}
 use Rattle.claims.specs.Spread.{Slip}
+use Rattle.claims.specs.Listing.{Listing}
 use Rattle.claims.specs.Demands.{Demand3}
 use Rattle.claims.proofs.Records.{answer-is}
 use Rattle.claims.proofs.Published.{holds, session-passes}
@@ -195,3 +199,20 @@ spread-B t =
 
 pub slip-B : (t : Tally) → Slip sheetB (recordB firings t) (key 1) t
 slip-B t = demands .spreads sheetB (recordB firings t) (key 1) t .told (spread-passes t)
+
+-- ---- T-09: fired 2, 0, 1 on sheet B, the steps are listed 0, 1, 2: step 2 moved base 1 alone, and 0 and 1 no base of it
+
+abbrev turned : List (List ℕ)
+turned = fireOf 2 ∷ fireOf 0 ∷ fireOf 1 ∷ []
+
+listing-passes : (cs : List (List ℕ)) (t : Tally) → clear (recordChecks sheetB (recordB cs t) []) ≡ true
+listing-passes cs t = clear-append (sheetChecks sheetB) _ ∙ rw (accepted-B, passes-B cs t)
+
+pub listing-B : (t : Tally) → listingFor sheetB (recordB turned t) ≡ listingOf (0 ∷ 1 ∷ 2 ∷ [])
+unfolding listingFor
+listing-B t =
+    rw (listing-passes turned t)
+    (ap listingOf (ap (λ (j : Journal). listing (j .lines)) (holds sheetB accepted-B (promised sheetB accepted-B .rule) turned t) ∙ ap (λ (n : Net). listing (play n turned (begin n) .lines)) sheetB-net))
+
+pub listed-B : (t : Tally) → Listing sheetB (recordB turned t)
+listed-B t = demands .listings sheetB (recordB turned t) .given (listing-passes turned t)

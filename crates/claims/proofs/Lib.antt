@@ -14,6 +14,7 @@ pub mod Serials
 pub mod WayBack
 pub mod Lamps
 pub mod Spread
+pub mod Listing
 pub mod Demands
 pub mod Instances
 pub mod Clutch

@@ -43,6 +43,7 @@ use Rattle.claims.specs.Serials.{Serials}
 use Rattle.claims.specs.WayBack.{Ways}
 use Rattle.claims.specs.Lamps.{Lamps}
 use Rattle.claims.specs.Spread.{Spreads}
+use Rattle.claims.specs.Listing.{Listings}
 
 -- ---- What the definitions of firing rest on
 
@@ -160,3 +161,4 @@ pub record Demands : Type 0 where
   pub ways : (s : List ℕ) (r : Record) (w : List ℕ) (t : Tally) → Ways s r w t
   pub lamps : (s : List ℕ) (r : Record) (t : Tally) → Lamps s r t
   pub spreads : (s : List ℕ) (r : Record) (k : Key) (t : Tally) → Spreads s r k t
+  pub listings : (s : List ℕ) (r : Record) → Listings s r

@@ -9,4 +9,5 @@ pub mod Serials
 pub mod WayBack
 pub mod Lamps
 pub mod Spread
+pub mod Listing
 pub mod Demands

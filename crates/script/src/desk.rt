@@ -193,7 +193,7 @@ fn other_line(name: &[u8], d: Desk) -> Desk {
     mistake(
         name,
         d,
-        b"`fire K`, `undo last`, `undo S`, `hex BYTES`, `block`, `hand in`, `where`, `couplings`, `live`, `moved S`, `step of S`, `tally`, `why`, `page N`, `row N I`, `lamp S`, `lamps`, `movers`, `spread S`, `way back part P at X ..`, `with AT BYTE`, `cut LENGTH`, `expect ANSWER`, `sheet` or `session`",
+        b"`fire K`, `undo last`, `undo S`, `hex BYTES`, `block`, `hand in`, `where`, `couplings`, `live`, `moved S`, `step of S`, `tally`, `why`, `page N`, `row N I`, `lamp S`, `lamps`, `movers`, `spread S`, `listing`, `way back part P at X ..`, `with AT BYTE`, `cut LENGTH`, `expect ANSWER`, `sheet` or `session`",
     )
 }
 

@@ -12,7 +12,7 @@ pub enum Order {
 }
 
 // A question: about the record, about the last refusal, about the sheet with some bytes changed or cut short, for a page of
-// the live firings or a row of it, about what can come off, and about how far a firing spreads.
+// the live firings or a row of it, about what can come off, how far a firing spreads, and for the listing of the steps.
 pub enum Question {
     Where,
     Couplings,
@@ -29,6 +29,7 @@ pub enum Question {
     Lamps,
     Movers,
     Spread(u16),
+    Listing,
 }
 
 pub enum Form {
@@ -97,7 +98,7 @@ fn page_form(line: &[u8]) -> Form {
     changed_form(line)
 }
 
-// What can come off, which firing moved each part last, and how far a firing spreads.
+// What can come off, which firing moved each part last, how far a firing spreads, and the listing.
 fn lamp_form(line: &[u8]) -> Form {
     if is(line, b"lamp 65535") {
         return Form::Asks(Question::Lamp(number(line, 0)));
@@ -110,6 +111,9 @@ fn lamp_form(line: &[u8]) -> Form {
     }
     if is(line, b"spread 65535") {
         return Form::Asks(Question::Spread(number(line, 0)));
+    }
+    if is(line, b"listing") {
+        return Form::Asks(Question::Listing);
     }
     page_form(line)
 }

@@ -1,9 +1,11 @@
-// Questions about what can come off (document 02, T-06): the lamp of a serial, the serials whose lamp is lit, for each part the last live
-// firing that moved it; and how far one firing spreads (T-08). The lamps and the spread are the customer's calls.
+// Questions about what can come off (document 02, T-06): the lamp of a serial, the serials whose lamp is lit, each part's last mover; how far
+// one firing spreads (T-08); the listing of the steps (T-09). The lamps, the spread and the listing are the customer's calls.
 use crate::answer::put_if;
 use crate::put::put_count;
 use crate::put::put_text;
 use lamps::LampsAnswer;
+use listing::Listing;
+use listing::ListingAnswer;
 use net::Key;
 use net::MAX_BASES;
 use net::MAX_LIVE;
@@ -73,5 +75,29 @@ pub fn put_spread(buf: &mut [u8], r: Record, sheet: &[u8], key: u16) -> usize {
     match a {
         SpreadAnswer::Told => put_reached(buf, parts),
         SpreadAnswer::Refused(n) => put_count(buf, 0, b"refused", n as usize),
+    }
+}
+
+// `listing` and the step numbers, in the order of the call.
+fn put_listed(buf: &mut [u8], l: Listing) -> usize {
+    let count = l.count;
+    let steps = l.transitions;
+    let mut pos = put_text(buf, 0, b"listing");
+    let mut i = 0;
+    while i < MAX_LIVE {
+        let t = steps[i];
+        pos = put_if(buf, pos, i < count, t.0 as usize);
+        i += 1;
+    }
+    pos
+}
+
+// The steps of the live firings in the order of the listing, or `refused N`.
+pub fn put_listing(buf: &mut [u8], r: Record, sheet: &[u8]) -> usize {
+    let l = r.listing(sheet);
+    let a = l.answer;
+    match a {
+        ListingAnswer::Given => put_listed(buf, l),
+        ListingAnswer::Refused(n) => put_count(buf, 0, b"refused", n as usize),
     }
 }

@@ -13,6 +13,7 @@ use crate::pages::put_page;
 use crate::pages::put_row;
 use crate::panel::put_lamp;
 use crate::panel::put_lamps;
+use crate::panel::put_listing;
 use crate::panel::put_movers;
 use crate::panel::put_spread;
 use crate::part::front;
@@ -92,5 +93,6 @@ pub fn put_question(d: Desk, q: Question, line: &[u8], sheet: &[u8], answer: &mu
         Question::Lamps => put_lamps(answer, r, s),
         Question::Movers => put_movers(answer, r, base_count(s) as usize),
         Question::Spread(k) => put_spread(answer, r, s, k),
+        Question::Listing => put_listing(answer, r, s),
     }
 }

@@ -11,4 +11,5 @@ pub mod Listing
 pub mod Asking
 pub mod Lamps
 pub mod Spread
+pub mod Ordering
 pub mod Blocks

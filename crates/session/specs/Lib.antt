@@ -6,6 +6,7 @@ pub mod Live
 pub mod Ways
 pub mod Lamps
 pub mod Spread
+pub mod Listing
 pub mod Runs
 pub mod Lists
 pub mod Block

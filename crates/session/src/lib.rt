@@ -2,6 +2,7 @@
 // A customer's command checks sheet and record first; `run` asks for a sound record.
 pub mod block;
 mod lamp;
+mod list;
 mod live;
 pub mod run;
 mod slip;

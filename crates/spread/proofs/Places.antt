@@ -53,13 +53,13 @@ spread-found k (suc n) f h = go (sameKey (f zero .key) k) h (spread-found k n (�
 abbrev pub Alike : List Bool → List Bool → Type 0
 Alike a b = (p : ℕ) → inSet a p ≡ inSet b p
 
-common-alike : (a b m n : List Bool) → Alike a b → Alike m n → common a m ≡ common b n
+pub common-alike : (a b m n : List Bool) → Alike a b → Alike m n → common a m ≡ common b n
 common-alike a b m n h k = same-test (common a m) (common b n) (one a b m n h k) (one b a n m (λ p. sym (h p)) (λ p. sym (k p)))
   where
     one : (a b m n : List Bool) → Alike a b → Alike m n → common a m ≡ true → common b n ≡ true
     one a b m n h k c = let (p, x, y) = common-e a m c in common-i b n p (sym (h p) ∙ x) (sym (k p) ∙ y)
 
-either-alike : (a b m n : List Bool) → Alike a b → Alike m n → Alike (either a m) (either b n)
+pub either-alike : (a b m n : List Bool) → Alike a b → Alike m n → Alike (either a m) (either b n)
 either-alike a b m n h k p = in-either a m p ∙ (λ i. h p i || k p i) ∙ sym (in-either b n p)
 
 pub spread-alike : (k : ℕ) (f g : ℕ → List Bool) → ((j : ℕ) → j < k → Alike (f j) (g j)) → (a b : List Bool) → Alike a b → Alike (spread a (table k f)) (spread b (table k g))

@@ -6,6 +6,7 @@ ghost use lib.ListN.{length};
 use crate::sum::print_sum;
 use crate::sum::summed_all;
 use command_list::how_many;
+use session::block::BlockCounted;
 use session::block::block_with;
 use session::run::run;
 use session_start::start;
@@ -69,7 +70,21 @@ pub fn run_blocks(sheet: &[u8], commands: &[u8])
     print_sum(sum, counts);
 }
 
-// The same as one list.
+// Up to 1,000 commands as one block, from a fresh record and a tally of zeros: the record and the tally that they leave.
+pub fn one_block(sheet: &[u8], commands: &[u8]) -> BlockCounted {
+    let first = start(sheet);
+    let fresh = first.session;
+    let zero = Tally {
+        fired: 0,
+        undone: 0,
+        refused: 0,
+    };
+    let mut words = [0u8; 1000];
+    let mut values = [0u16; 1000];
+    block_with(fresh, sheet, commands, zero, &mut words, &mut values)
+}
+
+// All commands as one list.
 pub fn run_list(sheet: &[u8], commands: &[u8])
     requires { ⌜ length (now commands) ≤ 65536 ⌝ }
 {

@@ -1,10 +1,11 @@
 // For the measurement (bench/run): runs the commands of its input in each of the ways that its words name, and prints the sum of
-// the keys and the tally for each. Reads what the exam program reads, up to 65,536 bytes.
+// the keys (of the steps for `listing`) and the tally for each. Reads what the exam program reads, up to 65,536 bytes.
 // `singly`: each command by the single call; `blocks`: by the block call, 1,000 at a time; `run`: as one list, nothing checked;
-// `way`: as one block, and then ten times the way back to the start places.
-// What stdout has was printed by the plain Rust program there, once for each word but `way`: there it is ten times the sum of the
-// live keys, since all have to go.
+// `way`: as one block, and then ten times the way back to the start places; `listing`: as one block, and then ten times the listing.
+// What stdout has was printed by the plain Rust program there, once for each of the first three words. For `way` it is ten times the
+// sum of the live keys, since all have to go, and for `listing` ten times the sum of the live firings' steps.
 mod blocks;
+mod lists;
 mod singly;
 mod sum;
 mod ways;
@@ -14,6 +15,7 @@ ghost use lib.ListN.{length};
 use blocks::run_blocks;
 use blocks::run_list;
 use format::word_at;
+use lists::run_lists;
 use singly::run_singly;
 use ways::run_ways;
 
@@ -39,6 +41,9 @@ fn run_as(i: usize, sheet: &[u8], commands: &[u8])
     }
     if begins(i, b'w') {
         run_ways(sheet, commands);
+    }
+    if begins(i, b'l') {
+        run_lists(sheet, commands);
     }
 }
 

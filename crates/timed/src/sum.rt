@@ -1,4 +1,4 @@
-// The sum of keys: so that no answer can be left out of what is measured.
+// The sum of keys, or of the steps of listings: so that no answer can be left out of what is measured.
 use case_tools::print::print_tally;
 use tally::Tally;
 
@@ -28,9 +28,18 @@ pub fn summed_all(sum: u32, words: &[u8], values: &[u16], n: usize) -> u32 {
     s
 }
 
-pub fn print_sum(sum: u32, t: Tally) {
-    io::write_all(1, b"keys ");
+// A word, the sum and the tally.
+fn print_named(word: &[u8], sum: u32, t: Tally) {
+    io::write_all(1, word);
     io::print_decimal(1, sum as u64);
     io::write_all(1, b"\n");
     print_tally(t.fired, t.undone, t.refused);
+}
+
+pub fn print_sum(sum: u32, t: Tally) {
+    print_named(b"keys ", sum, t);
+}
+
+pub fn print_steps(sum: u32, t: Tally) {
+    print_named(b"steps ", sum, t);
 }

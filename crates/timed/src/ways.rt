@@ -1,13 +1,11 @@
 // The way back (document 02, T-04) to the sheet's start places, asked again and again of the record that the commands leave.
 // They are given as one block, so up to 1,000 of them.
+use crate::blocks::one_block;
 use crate::sum::print_sum;
 use crate::sum::summed;
 use format::start_places;
 use net::MAX_LIVE;
 use session::Record;
-use session::block::block_with;
-use session_start::start;
-use tally::Tally;
 use way_back::WayBack;
 
 // How often it is asked.
@@ -41,16 +39,7 @@ fn asked(r: Record, sheet: &[u8]) -> u32 {
 
 // From a fresh record and a tally of zeros.
 pub fn run_ways(sheet: &[u8], commands: &[u8]) {
-    let first = start(sheet);
-    let fresh = first.session;
-    let zero = Tally {
-        fired: 0,
-        undone: 0,
-        refused: 0,
-    };
-    let mut words = [0u8; 1000];
-    let mut values = [0u16; 1000];
-    let done = block_with(fresh, sheet, commands, zero, &mut words, &mut values);
+    let done = one_block(sheet, commands);
     let o = done.outcome;
     let r = o.session;
     let counts = done.tally;

@@ -1,0 +1,3 @@
+-- The listing of a record's live firings.
+pub mod First
+pub mod Listing
