@@ -15,7 +15,8 @@ use Rattle.net.specs.Firing.{inSet}
 use Rattle.net.specs.Journal.{LiveLine, noLine, common}
 use Rattle.net.proofs.Tests.{pick-case, and-l, and-r, fails, or-e}
 use Rattle.net.proofs.Keys.{common-e}
-use Rattle.spread.proofs.Sets.{in-either, either-l, either-r, common-no}
+use Rattle.words.proofs.Bits.{either-at}
+use Rattle.spread.proofs.Sets.{either-l, either-r, common-no}
 use Rattle.listing.specs.First.{stepAt, seenTo, leastTo, nextAt}
 
 -- ---- the bases that the first i lines moved
@@ -31,7 +32,7 @@ seen-i ls (suc i) k p h e = test (ltb k i)
 
 pub seen-e : (ls : List LiveLine) (i p : ℕ) → inSet (seenTo ls i) p ≡ true → (k : ℕ) × (k < i) × (inSet (getD ls k noLine .moved) p ≡ true)
 seen-e ls zero p e = both false e refl
-seen-e ls (suc i) p e = go (or-e (inSet (seenTo ls i) p) (inSet (getD ls i noLine .moved) p) (sym (in-either (seenTo ls i) (getD ls i noLine .moved) p) ∙ e)) (seen-e ls i p)
+seen-e ls (suc i) p e = go (or-e (inSet (seenTo ls i) p) (inSet (getD ls i noLine .moved) p) (sym (either-at (seenTo ls i) (getD ls i noLine .moved) p) ∙ e)) (seen-e ls i p)
   where
     go : (inSet (seenTo ls i) p ≡ true) ⊎ (inSet (getD ls i noLine .moved) p ≡ true)
         → (inSet (seenTo ls i) p ≡ true → (k : ℕ) × (k < i) × (inSet (getD ls k noLine .moved) p ≡ true))

@@ -3,7 +3,7 @@
 use mathlib.Core.Path.{_≡_, refl, sym, _∙_, ap, ap₂}
 use mathlib.Core.Bool.{Bool, true, false, not, _&&_, _||_}
 use mathlib.Core.List.{List}
-use Prim.Native.Nat.{ℕ, zero, suc, _<_}
+use Prim.Native.Nat.{ℕ, zero, suc, _-_, _<_}
 use native.Mathlib.Omega.{arith}
 use lib.Dec.{eqb, ltb}
 use lib.ListN.{length, getD, set}
@@ -12,10 +12,13 @@ use borrow.Author.Tests.{eqb-true, eqb-false, eq-eqb, ne-eqb, lt-ltb}
 use Rattle.causal.proofs.Tests.{both}
 use Rattle.net.specs.Limits.{maxBases}
 use Rattle.net.specs.Tests.{pick, all, table}
+use Rattle.net.specs.Journal.{common}
 use Rattle.net.proofs.Tests.{fails, all-i, all-at}
+use Rattle.net.proofs.Keys.{common-i}
 use Rattle.net.proofs.Tables.{length-table, getD-table, getD-table-all, table-cong, table-list}
-use Rattle.words.specs.Sets.{setOf, meet, minus}
-use Rattle.words.proofs.Bits.{no-bases, low-of, meet-at, minus-at}
+use Rattle.words.specs.Sets.{setOf, either, meet, minus}
+use Rattle.words.proofs.Bits.{either-at, no-bases, low-of, meet-at, minus-at}
+use Rattle.movers.specs.Movers.{movedAt}
 use Rattle.movers.specs.Tables.{lastKeyIn, moversIn, marked, givenBack, onTopIn}
 
 pub marked-size : (m : List Bool) (k : ℕ) (t : List ℕ) → length (marked m k t) ≡ maxBases
@@ -91,6 +94,47 @@ back-turn keys moved i m t = table-cong maxBases _ _ (λ p h.
     getD-table maxBases (λ q. pick (getD (meet m w) q false) (getD keys i 0) (getD t q 0)) p 0 h ∙ ap (λ (b : Bool). pick b (getD keys i 0) (getD t p 0)) (meet-at m w p) in
     ap₂ (λ (b : Bool) (x : ℕ). pick b (lastKeyIn keys moved p i) x) (minus-at m w p) q
     ∙ one-base (getD m p false) (getD w p false) (getD keys i 0) (lastKeyIn keys moved p i) (getD t p 0))
+
+-- four firings, of which none moved a base of the set, change nothing of what is given back
+module _ (keys moved : List ℕ) (i : ℕ) where
+  abbrev four : List Bool
+  four = either (either (setOf maxBases (getD moved (suc (suc (suc i))) 0)) (setOf maxBases (getD moved (suc (suc i)) 0))) (either (setOf maxBases (getD moved (suc i) 0)) (setOf maxBases (getD moved i 0)))
+
+  passed : (a b c d : Bool) (ka kb kc kd low : ℕ) → ((a || b) || (c || d)) ≡ false → pick a ka (pick b kb (pick c kc (pick d kd low))) ≡ low
+  passed true b c d ka kb kc kd low e = both true refl e
+  passed false true c d ka kb kc kd low e = both true refl e
+  passed false false true d ka kb kc kd low e = both true refl e
+  passed false false false true ka kb kc kd low e = both true refl e
+  passed false false false false ka kb kc kd low e = refl
+
+  four-at : (p : ℕ) → getD four p false ≡ ((movedAt moved p (suc (suc (suc i))) || movedAt moved p (suc (suc i))) || (movedAt moved p (suc i) || movedAt moved p i))
+  four-at p = either-at (either (setOf maxBases (getD moved (suc (suc (suc i))) 0)) (setOf maxBases (getD moved (suc (suc i)) 0))) (either (setOf maxBases (getD moved (suc i) 0)) (setOf maxBases (getD moved i 0))) p
+      ∙ (λ j. either-at (setOf maxBases (getD moved (suc (suc (suc i))) 0)) (setOf maxBases (getD moved (suc (suc i)) 0)) p j || either-at (setOf maxBases (getD moved (suc i) 0)) (setOf maxBases (getD moved i 0)) p j)
+
+  back-four : (m : List Bool) (t : List ℕ) → common four m ≡ false → givenBack keys moved i m t ≡ givenBack keys moved (suc (suc (suc (suc i)))) m t
+  back-four m t apart = table-cong maxBases _ _ (λ p h. at p (getD m p false) refl)
+    where
+      at : (p : ℕ) (b : Bool) → getD m p false ≡ b → pick (getD m p false) (lastKeyIn keys moved p i) (getD t p 0) ≡ pick (getD m p false) (lastKeyIn keys moved p (suc (suc (suc (suc i))))) (getD t p 0)
+      at p true e =
+          let none : getD four p false ≡ false = fails (getD four p false) (λ f. both (common four m) (common-i four m p f e) apart) in
+          rw e (sym (passed (movedAt moved p (suc (suc (suc i)))) (movedAt moved p (suc (suc i))) (movedAt moved p (suc i)) (movedAt moved p i) _ _ _ _ _ (sym (four-at p) ∙ none)))
+      at p false e = rw e
+
+-- the last four of the first i, in words as they are looked at
+pub back-passed : (keys moved : List ℕ) (i : ℕ) → 4 < i
+    → (u l w : ℕ) → setOf maxBases u ≡ either (setOf maxBases (getD moved (i - 1) 0)) (setOf maxBases (getD moved (i - 2) 0))
+    → setOf maxBases l ≡ either (setOf maxBases (getD moved (i - 3) 0)) (setOf maxBases (getD moved (i - 4) 0))
+    → setOf maxBases w ≡ either (setOf maxBases u) (setOf maxBases l)
+    → (m : List Bool) → common (setOf maxBases w) m ≡ false → (t : List ℕ) → givenBack keys moved (i - 4) m t ≡ givenBack keys moved i m t
+back-passed keys moved i h u l w eu el ew m apart t =
+    let j : ℕ = i - 4 in
+    let a : i - 1 ≡ suc (suc (suc j)) = omega arith in
+    let b : i - 2 ≡ suc (suc j) = omega arith in
+    let c : i - 3 ≡ suc j = omega arith in
+    let z : suc (suc (suc (suc j))) ≡ i = omega arith in
+    let set : ℕ → List Bool = λ k. setOf maxBases (getD moved k 0) in
+    let q : setOf maxBases w ≡ four keys moved j = ew ∙ ap₂ either (eu ∙ (λ k. either (set (a k)) (set (b k)))) (el ∙ ap (λ (k : ℕ). either (set k) (set j)) c) in
+    back-four keys moved j m t (ap (λ (s : List Bool). common s m) (sym q) ∙ apart) ∙ ap (λ (k : ℕ). givenBack keys moved k m t) z
 
 -- nothing is left: the way down ends
 pub back-none : (keys moved : List ℕ) (i left : ℕ) (t : List ℕ) → left ≡ 0 → length t ≡ maxBases → t ≡ givenBack keys moved i (setOf maxBases left) t

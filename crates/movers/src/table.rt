@@ -2,7 +2,8 @@
 // 0 where none did. Marked in place by a firing, given back by a taking back; the lamp looks at a firing's own entries.
 ghost use mathlib.Core.Path.{_≡_};
 ghost use mathlib.Core.Bool.{false};
-ghost use Prim.Native.Nat.{_<_, _≤_};
+ghost use mathlib.Core.List.{List};
+ghost use Prim.Native.Nat.{ℕ, _<_, _≤_};
 ghost use lib.Dec.{eqb};
 ghost use lib.ListN.{length};
 ghost use Rattle.net.specs.Limits.{maxBases, maxLive};
@@ -15,6 +16,8 @@ use net::MAX_LIVE;
 use words::common_bases;
 use words::lowest_base;
 use words::other_bases;
+use words::shares;
+use words::union;
 use words::without_base;
 
 // Every base of the set gets the key: a turn for each base of the set. The callers' tables have their full length, here and below.
@@ -42,6 +45,27 @@ fn mark_shared(table: &mut [u16; MAX_BASES], left: u64, moved: u64, key: Key) ->
     other_bases(left, moved)
 }
 
+// From the last of the first n firings down four at a time are passed, while none of the four moved a base of the set: what is left
+// of the n, one at least. `mark_back` has some, and no more than the limit.
+fn pass_four(moved: &[u64; MAX_LIVE], n: usize, set: u64) -> usize
+    requires { ⌜ (0 < n) × (n ≤ maxLive) ⌝ }
+    ensures { λ r. ⌜ (0 < r) × (r ≤ n) ⌝ }
+    ensures { λ r. ⌜
+        ((keys table : List ℕ)
+        → givenBack keys (now (moved .entry)) r (setOf maxBases set) table ≡ givenBack keys (now (moved .entry)) n (setOf maxBases set) table) ⌝ }
+{
+    let mut i = n;
+    while 4 < i {
+        let upper = union(moved[i - 1], moved[i - 2]);
+        let lower = union(moved[i - 3], moved[i - 4]);
+        if shares(union(upper, lower), set) {
+            return i;
+        }
+        i -= 4;
+    }
+    i
+}
+
 // Every base of the set gets the key of the last of the first n firings that moved it, 0 where none did: from the last of them
 // down, until nothing of the set is left. The callers have no more firings than the limit.
 pub fn mark_back<'a>(
@@ -61,7 +85,7 @@ pub fn mark_back<'a>(
         if left == 0 {
             return;
         }
-        i -= 1;
+        i = pass_four(moved, i, left) - 1;
         left = mark_shared(table, left, moved[i], Key(keys[i]));
     }
     mark(table, left, Key(0));

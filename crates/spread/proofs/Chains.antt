@@ -17,8 +17,9 @@ use Rattle.net.specs.declared.Key.{Key}
 use Rattle.net.proofs.Tests.{or-e, pick-case, fails}
 use Rattle.net.proofs.Keys.{Up, common-i, common-e}
 use Rattle.words.specs.Sets.{either}
+use Rattle.words.proofs.Bits.{either-at}
 use Rattle.spread.specs.Depends.{Depends, itself, through, movedSets, spread, others, spreadOf, remaining}
-use Rattle.spread.proofs.Sets.{either-l, either-r, in-either, common-no}
+use Rattle.spread.proofs.Sets.{either-l, either-r, common-no}
 use Rattle.spread.proofs.Left.{others-mem, rest-mem}
 
 -- a line that is left has no base of the set
@@ -83,7 +84,7 @@ module _ (all : List LiveLine) (l₀ : LiveLine) where
       let (p, a, b) = common-e m (l .moved) c in
       let (y, n, d, e, f) = S p a in
       let D : Depends all l₀ l = depends-then d (through i (f l (inl refl)) (common-i (y .moved) (l .moved) p e b) itself) in
-      (D, λ p q. from p D (or-e (inSet m p) (inSet (l .moved) p) (sym (in-either m (l .moved) p) ∙ q)))
+      (D, λ p q. from p D (or-e (inSet m p) (inSet (l .moved) p) (sym (either-at m (l .moved) p) ∙ q)))
     where
       from : (p : ℕ) → Depends all l₀ l → (inSet m p ≡ true) ⊎ (inSet (l .moved) p ≡ true)
           → (y : LiveLine) × Mem y all × Depends all l₀ y × (inSet (y .moved) p ≡ true) × ((x : LiveLine) → Mem x ys → y .key .0 < x .key .0)

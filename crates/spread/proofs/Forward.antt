@@ -14,6 +14,7 @@ use Rattle.net.specs.Journal.{LiveLine, common}
 use Rattle.net.specs.declared.Key.{Key}
 use Rattle.net.proofs.Keys.{Up}
 use Rattle.words.specs.Sets.{either}
+use Rattle.words.proofs.Bits.{either-at}
 use Rattle.spread.specs.Depends.{movedSets, spread, others, spreadOf, remaining}
 use Rattle.causal.specs.Runs.{Run, AgreeOff, Laws}
 use Rattle.causal.proofs.Reorderings.{independent-sym, reordering-same}
@@ -34,7 +35,7 @@ use Rattle.net.proofs.Keys.{live-split, up-distinct}
 use Rattle.net.proofs.Journal.{Held}
 use Rattle.net.proofs.Demand3.{held-forward}
 use Rattle.net.proofs.History.{sound-held}
-use Rattle.spread.proofs.Sets.{in-either, common-no}
+use Rattle.spread.proofs.Sets.{common-no}
 use Rattle.spread.proofs.Left.{rest-mem, rest-up, rest-length, rest-highest}
 use Rattle.spread.proofs.Chains.{Facts, facts, spread-split, remaining-split}
 
@@ -54,7 +55,7 @@ module _ (net : Net) (ok : netRule net ≡ true) where
           → (b′ : Marking) × Run (Fires net) a′ (pick c (others (either m (l .moved)) ls) (l ∷ others m ls)) b′
           × AgreeOff inSet view (pick c (spread (either m (l .moved)) (movedSets ls)) (spread m (movedSets ls))) b b′
       go true e ih = ih (either m (l .moved)) a′ g′ (λ p q.
-          let q′ : (inSet m p || inSet (l .moved) p) ≡ false = sym (in-either m (l .moved) p) ∙ q in
+          let q′ : (inSet m p || inSet (l .moved) p) ≡ false = sym (either-at m (l .moved) p) ∙ q in
           sym (L .frame g (r .1) p (or-no-r (inSet m p) (inSet (l .moved) p) q′)) ∙ o p (or-no-l (inSet m p) (inSet (l .moved) p) q′))
       go false e ih =
           let away : Independent inSet (l .moved) m = independent-sym inSet {m = m} {n = l .moved} (common-no m (l .moved) e) in

@@ -16,7 +16,7 @@ use Rattle.bonds.proofs.Fill.{map-table}
 use Rattle.words.specs.Sets.{either}
 use Rattle.firings.specs.Search.{indexOf}
 use Rattle.spread.specs.Depends.{movedSets, spread, spreadOf}
-use Rattle.spread.proofs.Sets.{in-either}
+use Rattle.words.proofs.Bits.{either-at}
 
 -- ---- by the place of the key
 
@@ -60,7 +60,7 @@ common-alike a b m n h k = same-test (common a m) (common b n) (one a b m n h k)
     one a b m n h k c = let (p, x, y) = common-e a m c in common-i b n p (sym (h p) ∙ x) (sym (k p) ∙ y)
 
 pub either-alike : (a b m n : List Bool) → Alike a b → Alike m n → Alike (either a m) (either b n)
-either-alike a b m n h k p = in-either a m p ∙ (λ i. h p i || k p i) ∙ sym (in-either b n p)
+either-alike a b m n h k p = either-at a m p ∙ (λ i. h p i || k p i) ∙ sym (either-at b n p)
 
 pub spread-alike : (k : ℕ) (f g : ℕ → List Bool) → ((j : ℕ) → j < k → Alike (f j) (g j)) → (a b : List Bool) → Alike a b → Alike (spread a (table k f)) (spread b (table k g))
 spread-alike zero f g h a b e = e

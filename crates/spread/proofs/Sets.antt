@@ -1,7 +1,7 @@
--- Laws of sets of bases: the bases of either of two; two without a common one.
+-- Laws of sets of bases: the bases of one of two; two without a common one.
 -- Assumes nothing.
 use mathlib.Core.Path.{_≡_, refl, sym, _∙_, ap}
-use mathlib.Core.Bool.{Bool, true, false, _||_, or-false}
+use mathlib.Core.Bool.{Bool, true, false, _||_}
 use mathlib.Core.List.{List, [], _∷_, _++_}
 use Prim.Native.Nat.{ℕ, zero, suc, _+_, _-_, _≤_}
 use native.Mathlib.Omega.{arith}
@@ -16,23 +16,18 @@ use Rattle.net.proofs.Keys.{common-i}
 use Rattle.net.specs.Limits.{maxBases}
 use Rattle.net.proofs.Tables.{table-more}
 use Rattle.words.specs.Sets.{setOf, either}
+use Rattle.words.proofs.Bits.{either-at}
 use Rattle.spread.specs.Spread.{laterSets}
 use Rattle.spread.specs.Depends.{spread}
-
-pub in-either : (m n : List Bool) (p : ℕ) → inSet (either m n) p ≡ (inSet m p || inSet n p)
-in-either [] n p = refl
-in-either (a ∷ m) [] p = sym (or-false (inSet (a ∷ m) p))
-in-either (a ∷ m) (b ∷ n) zero = refl
-in-either (a ∷ m) (b ∷ n) (suc p) = in-either m n p
 
 pub common-no : (m n : List Bool) → common m n ≡ false → Independent inSet m n
 common-no m n h p q = fails (inSet n p) (λ e. both (common m n) (common-i m n p q e) h)
 
 pub either-l : (m n : List Bool) (p : ℕ) → inSet m p ≡ true → inSet (either m n) p ≡ true
-either-l m n p e = in-either m n p ∙ or-l (inSet m p) (inSet n p) e
+either-l m n p e = either-at m n p ∙ or-l (inSet m p) (inSet n p) e
 
 pub either-r : (m n : List Bool) (p : ℕ) → inSet n p ≡ true → inSet (either m n) p ≡ true
-either-r m n p e = in-either m n p ∙ or-r (inSet m p) (inSet n p) e
+either-r m n p e = either-at m n p ∙ or-r (inSet m p) (inSet n p) e
 
 -- ---- one set more to spread over
 

@@ -31,6 +31,9 @@ returns c =
     let s = at .before in
     back-none (s .args .keys .now) (s .args .moved .now) (at .loop .i) (at .loop .left) (at .loop .table) (c .if1 .taken) (at .loop .inv .2) ∙ at .loop .inv .3
 
+pass-four-requires : tie.Need-pass-four-requires Inv-loop μ-loop
+pass-four-requires c κs = search needs
+
 sub-i : tie.Need-sub-i Inv-loop μ-loop
 sub-i c = search needs
 
@@ -54,17 +57,20 @@ loop-less c = search needs
 
 loop-again : tie.Need-loop-again Inv-loop μ-loop
 loop-again c =
-    let at : tie.At-loop Inv-loop μ-loop = c .before .before .before .before .before .before in
+    let f : tie.After-pass-four Inv-loop μ-loop = c .before .before .before .before in
+    let at : tie.At-loop Inv-loop μ-loop = f .before .before .before in
     let s = at .before in
     let ks : List ℕ = s .args .keys .now in
     let ws : List ℕ = s .args .moved .now in
-    let i : ℕ = at .loop .i - 1 in
+    let i : ℕ = f .pass-four .result - 1 in
     let m : List Bool = setOf maxBases (at .loop .left) in
     let (marks, rest) = c .mark-shared .ensures in (
       search needs,
       at .loop .inv .1,
       ap length marks ∙ marked-size (meet m (setOf maxBases (getD ws i 0))) (getD ks i 0) (at .loop .table),
-      ap₂ (givenBack ks ws i) rest marks ∙ back-turn ks ws i m (at .loop .table) ∙ ap (λ (k : ℕ). givenBack ks ws k m (at .loop .table)) (let e : suc i ≡ at .loop .i = omega arith in e) ∙ at .loop .inv .3,
+      ap₂ (givenBack ks ws i) rest marks ∙ back-turn ks ws i m (at .loop .table)
+          ∙ ap (λ (k : ℕ). givenBack ks ws k m (at .loop .table)) (let e : suc i ≡ f .pass-four .result = omega arith in e)
+          ∙ f .pass-four .ensures .1 ks (at .loop .table) ∙ at .loop .inv .3,
     )
 
 mark-requires : tie.Need-mark-requires Inv-loop μ-loop
@@ -85,6 +91,7 @@ mark-back-spec =
     μ-loop
     loop-holds
     returns
+    pass-four-requires
     sub-i
     mul-mark-shared
     element-copy-out-mark-shared
