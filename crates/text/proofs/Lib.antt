@@ -2,3 +2,4 @@
 pub mod Writes
 pub mod Digits
 pub mod Joined
+pub mod Loops

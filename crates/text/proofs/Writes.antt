@@ -3,11 +3,11 @@
 use mathlib.Core.Path.{_≡_, refl, sym, ap, _∙_}
 use Prim.Native.Nat.{ℕ, suc, _+_, _≤_, _<_}
 use native.Mathlib.Numerals.{add-one}
-use native.Mathlib.Nat.{add-zero, add-suc, suc-add, zero-add, le-of-lt}
+use native.Mathlib.Nat.{add-zero, add-suc, suc-add, suc-ne-zero, zero-add, le-of-lt}
 use native.Mathlib.Omega.{arith}
 use mathlib.Core.List.{List, [], _∷_, _++_}
 use lib.ListN.{length, getD, set, take, drop, length-append}
-use lib.Seq.{sets, sets-eq, take-suc, length-take-le}
+use lib.Seq.{sets, sets-eq, set-comm, take-suc, length-take-le}
 use Rattle.text.specs.Writes.{Wrote}
 
 shift : (i n : ℕ) → i + suc n ≡ suc i + n
@@ -21,6 +21,17 @@ module _ {A : Type 0} where
   -- one store more
   pub sets-snoc : (vs l : List A) (i : ℕ) (x : A) → set (sets l i vs) (i + length vs) x ≡ sets l i (vs ++ (x ∷ []))
   sets-snoc vs l i x = sets-sets vs (x ∷ []) l i
+
+  -- the same with the store made first
+  pub sets-last : (vs l : List A) (i : ℕ) (x : A) → sets (set l (i + length vs) x) i vs ≡ sets l i (vs ++ (x ∷ []))
+  sets-last [] l i x = ap (λ (k : ℕ). set l k x) (add-zero i)
+  sets-last (a ∷ vs) l i x =
+      let h : suc i + length vs ≡ i → ⊥ = λ e. omega arith in
+      rw (shift i (length vs), set-comm l (suc i + length vs) i x a h) (sets-last vs (set l i a) (suc i) x)
+
+  pub sets-none : (vs l : List A) (i : ℕ) → length vs ≡ 0 → sets l i vs ≡ l
+  sets-none [] l i e = refl
+  sets-none (a ∷ vs) l i e = absurd (suc-ne-zero (length vs) e)
 
   -- a run from the start is a prefix
   pub sets-front : (vs l : List A) → length vs ≤ length l → sets l 0 vs ≡ vs ++ drop (length vs) l

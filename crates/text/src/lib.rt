@@ -1,26 +1,43 @@
 // Text into a lent buffer: decimal numbers and words, from a given position on. Every contract says all of the buffer
 // (`Wrote`) and answers where the text ends.
+ghost use mathlib.Core.Path.{_≡_};
 ghost use Prim.Native.Nat.{_+_, _≤_};
 ghost use lib.ListN.{length};
 ghost use Rattle.text.specs.Decimal.{digits};
 ghost use Rattle.text.specs.Writes.{Wrote};
 
+// How many digits `put_digits` writes: as many as n has, and at most `places`.
+fn digit_count(n: u32, places: usize) -> usize
+    ensures { λ r. ⌜ r ≡ length (digits places n) ⌝ }
+{
+    let mut unit: u64 = 1;
+    let mut count = 1;
+    while unit * 10 <= n as u64 {
+        unit *= 10;
+        count += 1;
+    }
+    if places < count {
+        return places;
+    }
+    count
+}
+
 // n in decimal, where it has at most `places` digits; of a longer number the last ones. Answers where the text ends.
+// The digits are written from the last to the first.
 // The callers have checked that the buffer is long enough, as for the function below.
 pub fn put_digits(buf: &mut [u8], at: usize, n: u32, places: usize) -> usize
     requires { ⌜ at + places ≤ length (now buf) ⌝ }
     ensures { λ r. ⌜ Wrote (digits places n) at (now (buf .entry)) r (now (buf .exit)) ⌝ }
 {
-    if places == 0 {
-        return at;
+    let count = digit_count(n, places);
+    let mut rest = n;
+    let mut j = count;
+    while 0 < j {
+        j -= 1;
+        buf[at + j] = (48 + rest % 10) as u8;
+        rest /= 10;
     }
-    if n < 10 {
-        buf[at] = (48 + n) as u8;
-        return at + 1;
-    }
-    let e = put_digits(buf, at, n / 10, places - 1);
-    buf[e] = (48 + n % 10) as u8;
-    e + 1
+    at + count
 }
 
 // The bytes of a word. Answers where the text ends.
