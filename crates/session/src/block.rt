@@ -6,7 +6,6 @@ use crate::Record;
 use crate::run::run;
 use command_list::block_refusal;
 use command_list::how_many;
-use sound::record_refusal;
 use tally::Tally;
 
 // The answer to a block; NotRun has the number of the papers' list.
@@ -56,22 +55,7 @@ impl Record {
             Blocked (now (sheet .entry)) self t (now (block .entry)) (now (words .entry)) (now (values .entry))
             (x .outcome) (x .tally) (now (words .exit)) (now (values .exit)) ⌝ }
     {
-        let m = self.marking;
-        let f = self.firings;
-        let movers = self.movers;
-        let refusal = record_refusal(
-            sheet,
-            f.live,
-            &f.transitions,
-            &f.keys,
-            &f.moved,
-            &m.places,
-            m.count,
-            &m.lo,
-            &m.hi,
-            &movers,
-            self.given,
-        );
+        let refusal = self.refusal_on(sheet);
         let turned = block_refusal(refusal, block, words.len(), values.len());
         if turned != 0 {
             return self.not_run(turned, t);

@@ -11,7 +11,6 @@ use lamps::is_lit;
 use lamps::show;
 use lamps::show_none;
 use net::Key;
-use sound::record_refusal;
 
 impl Record {
     // Whether the firing of that key can be taken back now: yes exactly where kind 3 with that key would be answered undone.
@@ -19,25 +18,12 @@ impl Record {
     pub fn can_undo(self, sheet: &[u8], key: Key) -> bool
         ensures { λ r. ⌜ r ≡ canUndo (now (sheet .entry)) self key ⌝ }
     {
-        let m = self.marking;
-        let f = self.firings;
-        let movers = self.movers;
-        let refusal = record_refusal(
-            sheet,
-            f.live,
-            &f.transitions,
-            &f.keys,
-            &f.moved,
-            &m.places,
-            m.count,
-            &m.lo,
-            &m.hi,
-            &movers,
-            self.given,
-        );
+        let refusal = self.refusal_on(sheet);
         if refusal != 0 {
             return false;
         }
+        let f = self.firings;
+        let movers = self.movers;
         is_lit(&movers, &f.keys, &f.moved, f.live, key)
     }
 
@@ -46,25 +32,12 @@ impl Record {
         ensures { λ r. ⌜ r ≡ lampsOf (now (sheet .entry)) self ⌝ }
         ensures { λ r. ⌜ lampsNumber (r .answer) ≡ first (recordChecks (now (sheet .entry)) self []) ⌝ }
     {
-        let m = self.marking;
-        let f = self.firings;
-        let movers = self.movers;
-        let refusal = record_refusal(
-            sheet,
-            f.live,
-            &f.transitions,
-            &f.keys,
-            &f.moved,
-            &m.places,
-            m.count,
-            &m.lo,
-            &m.hi,
-            &movers,
-            self.given,
-        );
+        let refusal = self.refusal_on(sheet);
         if refusal != 0 {
             return show_none(refusal);
         }
+        let f = self.firings;
+        let movers = self.movers;
         show(&movers, &f.keys, &f.moved, f.live)
     }
 }

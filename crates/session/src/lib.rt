@@ -9,8 +9,10 @@ mod slip;
 mod ways;
 
 ghost use mathlib.Core.Path.{_≡_};
+ghost use mathlib.Core.List.{[]};
+ghost use Rattle.net.specs.Checks.{first};
 ghost use Rattle.session.specs.Records.{Sound};
-ghost use Rattle.session.specs.Commands.{refusal, performOf, outcomeFor, Commanded};
+ghost use Rattle.session.specs.Commands.{refusal, performOf, recordChecks, outcomeFor, Commanded};
 use commands::Answer;
 use commands::in_place::perform_in;
 use commands::word_of;
@@ -56,6 +58,29 @@ pub struct Counted {
 }
 
 impl Record {
+    // The first of 1 to 10 that holds; 0 where none does. Every call on a record asks for it first.
+    fn refusal_on(self, sheet: &[u8]) -> u8
+        ensures { λ r. ⌜ r ≡ first (recordChecks (now (sheet .entry)) self []) ⌝ }
+        ensures { λ r. ⌜ (r ≡ 0 → Sound (now (sheet .entry)) self) ⌝ }
+    {
+        let m = self.marking;
+        let f = self.firings;
+        let movers = self.movers;
+        record_refusal(
+            sheet,
+            f.live,
+            &f.transitions,
+            &f.keys,
+            &f.moved,
+            &m.places,
+            m.count,
+            &m.lo,
+            &m.hi,
+            &movers,
+            self.given,
+        )
+    }
+
     // A refused command: the very record, and key 0.
     fn refused(self, n: u8) -> Outcome
         ensures { λ r. ⌜ r ≡ refusal self n ⌝ }
@@ -130,22 +155,7 @@ impl Record {
     fn answer(self, sheet: &[u8], bytes: &[u8]) -> Outcome
         ensures { λ r. ⌜ r ≡ outcomeFor (now (sheet .entry)) self (now (bytes .entry)) ⌝ }
     {
-        let m = self.marking;
-        let f = self.firings;
-        let movers = self.movers;
-        let refusal = record_refusal(
-            sheet,
-            f.live,
-            &f.transitions,
-            &f.keys,
-            &f.moved,
-            &m.places,
-            m.count,
-            &m.lo,
-            &m.hi,
-            &movers,
-            self.given,
-        );
+        let refusal = self.refusal_on(sheet);
         if refusal != 0 {
             return self.refused(refusal);
         }

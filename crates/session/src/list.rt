@@ -9,7 +9,6 @@ use crate::Record;
 use listing::Listing;
 use listing::list_none;
 use listing::list_steps;
-use sound::record_refusal;
 
 impl Record {
     // The steps of the live firings in the reordering, among those that keep the order of firings with a common part, that is first
@@ -18,25 +17,14 @@ impl Record {
         ensures { λ r. ⌜ r ≡ listingFor (now (sheet .entry)) self ⌝ }
         ensures { λ r. ⌜ listingNumber (r .answer) ≡ first (recordChecks (now (sheet .entry)) self []) ⌝ }
     {
-        let m = self.marking;
-        let f = self.firings;
-        let movers = self.movers;
-        let refusal = record_refusal(
-            sheet,
-            f.live,
-            &f.transitions,
-            &f.keys,
-            &f.moved,
-            &m.places,
-            m.count,
-            &m.lo,
-            &m.hi,
-            &movers,
-            self.given,
-        );
+        let refusal = self.refusal_on(sheet);
         if refusal != 0 {
             return list_none(refusal);
         }
-        list_steps(f.transitions, f.keys, f.moved, f.live)
+        let f = self.firings;
+        let transitions = f.transitions;
+        let keys = f.keys;
+        let moved = f.moved;
+        list_steps(transitions, keys, moved, f.live)
     }
 }

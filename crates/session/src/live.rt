@@ -5,32 +5,17 @@ use crate::Record;
 use live_list::LiveFirings;
 use live_list::list_live;
 use live_list::list_none;
-use sound::record_refusal;
 
 impl Record {
     // The live firings in their order, with their number: 1 to 10 first; no firing and zeros where the call is refused.
     pub fn live_firings(self, sheet: &[u8]) -> LiveFirings
         ensures { λ r. ⌜ r ≡ liveFirings (now (sheet .entry)) self ⌝ }
     {
-        let m = self.marking;
-        let f = self.firings;
-        let movers = self.movers;
-        let refusal = record_refusal(
-            sheet,
-            f.live,
-            &f.transitions,
-            &f.keys,
-            &f.moved,
-            &m.places,
-            m.count,
-            &m.lo,
-            &m.hi,
-            &movers,
-            self.given,
-        );
+        let refusal = self.refusal_on(sheet);
         if refusal != 0 {
             return list_none(refusal);
         }
+        let f = self.firings;
         list_live(&f.transitions, &f.keys, &f.moved, f.live)
     }
 }

@@ -5,7 +5,6 @@ ghost use Rattle.spread.specs.Spread.{spreadNumber};
 ghost use Rattle.session.specs.Spread.{spreadChecks, spreadFor};
 use crate::Record;
 use net::Key;
-use sound::record_refusal;
 use spread::Spread;
 use spread::spread_of;
 use spread::tell_none;
@@ -17,25 +16,11 @@ impl Record {
         ensures { λ r. ⌜ r ≡ spreadFor (now (sheet .entry)) self key ⌝ }
         ensures { λ r. ⌜ spreadNumber (r .answer) ≡ first (spreadChecks (now (sheet .entry)) self key) ⌝ }
     {
-        let m = self.marking;
-        let f = self.firings;
-        let movers = self.movers;
-        let refusal = record_refusal(
-            sheet,
-            f.live,
-            &f.transitions,
-            &f.keys,
-            &f.moved,
-            &m.places,
-            m.count,
-            &m.lo,
-            &m.hi,
-            &movers,
-            self.given,
-        );
+        let refusal = self.refusal_on(sheet);
         if refusal != 0 {
             return tell_none(refusal);
         }
+        let f = self.firings;
         spread_of(&f.keys, &f.moved, f.live, key)
     }
 }

@@ -4,7 +4,6 @@ ghost use Rattle.net.specs.Checks.{first};
 ghost use Rattle.way_back.specs.Answer.{wayNumber};
 ghost use Rattle.session.specs.Ways.{wayBackChecks, wayBackOf};
 use crate::Record;
-use sound::record_refusal;
 use way_back::WayBack;
 use way_back::no_way;
 use way_back::way_from;
@@ -16,25 +15,12 @@ impl Record {
         ensures { λ r. ⌜ r ≡ wayBackOf (now (sheet .entry)) self (now (layout .entry)) ⌝ }
         ensures { λ r. ⌜ wayNumber (r .answer) ≡ first (wayBackChecks (now (sheet .entry)) self (now (layout .entry))) ⌝ }
     {
-        let m = self.marking;
-        let f = self.firings;
-        let movers = self.movers;
-        let refusal = record_refusal(
-            sheet,
-            f.live,
-            &f.transitions,
-            &f.keys,
-            &f.moved,
-            &m.places,
-            m.count,
-            &m.lo,
-            &m.hi,
-            &movers,
-            self.given,
-        );
+        let refusal = self.refusal_on(sheet);
         if refusal != 0 {
             return no_way(refusal);
         }
+        let m = self.marking;
+        let f = self.firings;
         way_from(sheet, layout, m, f)
     }
 }

@@ -7,29 +7,29 @@ use Rattle.session.proofs.Stays.{performs}
 use Rattle.session.proofs.Record.answer.Statement.{statement}
 use Rattle.session.proofs.Record.answer.Tie as tie
 
-record-refusal-requires : tie.Need-record-refusal-requires
-record-refusal-requires c κs = search needs
+refusal-on-requires : tie.Need-refusal-on-requires
+refusal-on-requires c κs = search needs
 
 refused-requires : tie.Need-refused-requires
 refused-requires c κs = search needs
 
 returns : tie.Need-returns
 returns c =
-    let d : tie.After-record-refusal = c .before .before in
-    let s : tie.Start = d .before .before .before .before .before .before .before .before .before .before .before .before .before .before .before in
-    c .refused .ensures ∙ refused-by (s .args .sheet .now) (s .args .self) (s .args .bytes .now) _ (d .record-refusal .ensures .0) (c .before .if1 .taken)
+    let d : tie.After-refusal-on = c .before .before in
+    let s : tie.Start = d .before .before .before in
+    c .refused .ensures ∙ refused-by (s .args .sheet .now) (s .args .self) (s .args .bytes .now) _ (d .refusal-on .ensures .0) (c .before .if1 .taken)
 
 perform-requires : tie.Need-perform-requires
 perform-requires c κs =
-    let d : tie.After-record-refusal = c .before in
-    let s : tie.Start = d .before .before .before .before .before .before .before .before .before .before .before .before .before .before .before in
-    d .record-refusal .ensures .1 (c .if1 .left)
+    let d : tie.After-refusal-on = c .before in
+    let s : tie.Start = d .before .before .before in
+    d .refusal-on .ensures .1 (c .if1 .left)
 
 returns-2 : tie.Need-returns-2
 returns-2 c =
-    let d : tie.After-record-refusal = c .before .before in
-    let s : tie.Start = d .before .before .before .before .before .before .before .before .before .before .before .before .before .before .before in
-    c .perform .ensures ∙ performs (s .args .sheet .now) (s .args .self) (d .record-refusal .ensures .1 (c .before .if1 .left)) (s .args .bytes .now)
+    let d : tie.After-refusal-on = c .before .before in
+    let s : tie.Start = d .before .before .before in
+    c .perform .ensures ∙ performs (s .args .sheet .now) (s .args .self) (d .refusal-on .ensures .1 (c .before .if1 .left)) (s .args .bytes .now)
 
 pub answer-spec : {M : Type 1} → statement M
-answer-spec = tie.close (tie.spec record-refusal-requires refused-requires returns perform-requires returns-2)
+answer-spec = tie.close (tie.spec refusal-on-requires refused-requires returns perform-requires returns-2)

@@ -7,30 +7,30 @@ use Rattle.session.proofs.Lamps.{lamp-refused, lamp-asked}
 use Rattle.session.proofs.Record.can_undo.Statement.{statement}
 use Rattle.session.proofs.Record.can_undo.Tie as tie
 
-abbrev start : tie.After-record-refusal → tie.Start
-start d = d .before .before .before .before .before .before .before .before .before .before .before .before .before .before
+abbrev start : tie.After-refusal-on → tie.Start
+start d = d .before .before
 
-record-refusal-requires : tie.Need-record-refusal-requires
-record-refusal-requires c κs = search needs
+refusal-on-requires : tie.Need-refusal-on-requires
+refusal-on-requires c κs = search needs
 
 returns : tie.Need-returns
 returns c =
-    let d : tie.After-record-refusal = c .before in
+    let d : tie.After-refusal-on = c .before in
     let s : tie.Start = start d in
-    lamp-refused (s .args .sheet .now) (s .args .self) _ (d .record-refusal .ensures .0) (c .if1 .taken) (s .args .key)
+    lamp-refused (s .args .sheet .now) (s .args .self) _ (d .refusal-on .ensures .0) (c .if1 .taken) (s .args .key)
 
 is-lit-requires : tie.Need-is-lit-requires
 is-lit-requires c κs =
-    let e : tie.Else1 = c .before .before .before .before in
+    let e : tie.Else1 = c .before .before .before .before .before .before in
     let s : tie.Start = start (e .before) in
-    let P = e .before .record-refusal .ensures .1 (e .if1 .left) .passed in
+    let P = e .before .refusal-on .ensures .1 (e .if1 .left) .passed in
     (live-few (s .args .sheet .now) (s .args .self .marking) (s .args .self .firings) (s .args .self .given) P, keys-rise (s .args .sheet .now) (s .args .self .marking) (s .args .self .firings) (s .args .self .given) P)
 
 returns-2 : tie.Need-returns-2
 returns-2 c =
-    let e : tie.Else1 = c .before .before .before .before .before in
+    let e : tie.Else1 = c .before .before .before .before .before .before .before in
     let s : tie.Start = start (e .before) in
-    c .is-lit .ensures ∙ lamp-asked (s .args .sheet .now) (s .args .self) (e .before .record-refusal .ensures .1 (e .if1 .left)) (s .args .key)
+    c .is-lit .ensures ∙ lamp-asked (s .args .sheet .now) (s .args .self) (e .before .refusal-on .ensures .1 (e .if1 .left)) (s .args .key)
 
 pub can-undo-spec : {M : Type 1} → statement M
-can-undo-spec = tie.close (tie.spec record-refusal-requires returns is-lit-requires returns-2)
+can-undo-spec = tie.close (tie.spec refusal-on-requires returns is-lit-requires returns-2)

@@ -5,29 +5,29 @@ use Rattle.session.proofs.Lamps.{lamps-refused, lamps-shown}
 use Rattle.session.proofs.Record.lamps.Statement.{statement}
 use Rattle.session.proofs.Record.lamps.Tie as tie
 
-abbrev start : tie.After-record-refusal → tie.Start
-start d = d .before .before .before .before .before .before .before .before .before .before .before .before .before .before
+abbrev start : tie.After-refusal-on → tie.Start
+start d = d .before .before
 
-record-refusal-requires : tie.Need-record-refusal-requires
-record-refusal-requires c κs = search needs
+refusal-on-requires : tie.Need-refusal-on-requires
+refusal-on-requires c κs = search needs
 
 show-none-requires : tie.Need-show-none-requires
 show-none-requires c κs = search needs
 
 returns : tie.Need-returns
 returns c =
-    let d : tie.After-record-refusal = c .before .before in
+    let d : tie.After-refusal-on = c .before .before in
     let s : tie.Start = start d in
-    lamps-refused (s .args .sheet .now) (s .args .self) _ (d .record-refusal .ensures .0) (c .before .if1 .taken) _ (c .show-none .ensures)
+    lamps-refused (s .args .sheet .now) (s .args .self) _ (d .refusal-on .ensures .0) (c .before .if1 .taken) _ (c .show-none .ensures)
 
 show-requires : tie.Need-show-requires
 show-requires c κs = search needs
 
 returns-2 : tie.Need-returns-2
 returns-2 c =
-    let e : tie.Else1 = c .before .before .before .before .before in
+    let e : tie.Else1 = c .before .before .before .before .before .before .before in
     let s : tie.Start = start (e .before) in
-    lamps-shown (s .args .sheet .now) (s .args .self) (e .before .record-refusal .ensures .1 (e .if1 .left)) _ (c .show .ensures)
+    lamps-shown (s .args .sheet .now) (s .args .self) (e .before .refusal-on .ensures .1 (e .if1 .left)) _ (c .show .ensures)
 
 pub lamps-spec : {M : Type 1} → statement M
-lamps-spec = tie.close (tie.spec record-refusal-requires show-none-requires returns show-requires returns-2)
+lamps-spec = tie.close (tie.spec refusal-on-requires show-none-requires returns show-requires returns-2)

@@ -6,34 +6,34 @@ use Rattle.session.proofs.Ordering.{listing-refused, listing-asked}
 use Rattle.session.proofs.Record.listing.Statement.{statement}
 use Rattle.session.proofs.Record.listing.Tie as tie
 
-abbrev start : tie.After-record-refusal → tie.Start
-start d = d .before .before .before .before .before .before .before .before .before .before .before .before .before .before
+abbrev start : tie.After-refusal-on → tie.Start
+start d = d .before .before
 
-record-refusal-requires : tie.Need-record-refusal-requires
-record-refusal-requires c κs = search needs
+refusal-on-requires : tie.Need-refusal-on-requires
+refusal-on-requires c κs = search needs
 
 list-none-requires : tie.Need-list-none-requires
 list-none-requires c κs = search needs
 
 returns : tie.Need-returns
 returns c =
-    let d : tie.After-record-refusal = c .before .before in
+    let d : tie.After-refusal-on = c .before .before in
     let s : tie.Start = start d in
-    listing-refused (s .args .sheet .now) (s .args .self) _ (d .record-refusal .ensures .0) (c .before .if1 .taken) _ (c .list-none .ensures)
+    listing-refused (s .args .sheet .now) (s .args .self) _ (d .refusal-on .ensures .0) (c .before .if1 .taken) _ (c .list-none .ensures)
 
 list-steps-requires : tie.Need-list-steps-requires
 list-steps-requires c κs =
-    let e : tie.Else1 = c .before .before .before in
+    let e : tie.Else1 = c .before .before .before .before in
     let s : tie.Start = start (e .before) in
-    let P = e .before .record-refusal .ensures .1 (e .if1 .left) .passed in
+    let P = e .before .refusal-on .ensures .1 (e .if1 .left) .passed in
     let z = firings-sized (s .args .sheet .now) (s .args .self .marking) (s .args .self .firings) (s .args .self .given) P in
     (live-few (s .args .sheet .now) (s .args .self .marking) (s .args .self .firings) (s .args .self .given) P, (z .transitions, z .keys, z .moved))
 
 returns-2 : tie.Need-returns-2
 returns-2 c =
-    let e : tie.Else1 = c .before .before .before .before in
+    let e : tie.Else1 = c .before .before .before .before .before in
     let s : tie.Start = start (e .before) in
-    listing-asked (s .args .sheet .now) (s .args .self) (e .before .record-refusal .ensures .1 (e .if1 .left)) _ (c .list-steps .ensures)
+    listing-asked (s .args .sheet .now) (s .args .self) (e .before .refusal-on .ensures .1 (e .if1 .left)) _ (c .list-steps .ensures)
 
 pub listing-spec : {M : Type 1} → statement M
-listing-spec = tie.close (tie.spec record-refusal-requires list-none-requires returns list-steps-requires returns-2)
+listing-spec = tie.close (tie.spec refusal-on-requires list-none-requires returns list-steps-requires returns-2)

@@ -6,33 +6,33 @@ use Rattle.session.proofs.Spread.{spread-refused, spread-asked}
 use Rattle.session.proofs.Record.spread.Statement.{statement}
 use Rattle.session.proofs.Record.spread.Tie as tie
 
-abbrev start : tie.After-record-refusal → tie.Start
-start d = d .before .before .before .before .before .before .before .before .before .before .before .before .before .before
+abbrev start : tie.After-refusal-on → tie.Start
+start d = d .before .before
 
-record-refusal-requires : tie.Need-record-refusal-requires
-record-refusal-requires c κs = search needs
+refusal-on-requires : tie.Need-refusal-on-requires
+refusal-on-requires c κs = search needs
 
 tell-none-requires : tie.Need-tell-none-requires
 tell-none-requires c κs = search needs
 
 returns : tie.Need-returns
 returns c =
-    let d : tie.After-record-refusal = c .before .before in
+    let d : tie.After-refusal-on = c .before .before in
     let s : tie.Start = start d in
-    spread-refused (s .args .sheet .now) (s .args .self) (s .args .key) _ (d .record-refusal .ensures .0) (c .before .if1 .taken) _ (c .tell-none .ensures)
+    spread-refused (s .args .sheet .now) (s .args .self) (s .args .key) _ (d .refusal-on .ensures .0) (c .before .if1 .taken) _ (c .tell-none .ensures)
 
 spread-of-requires : tie.Need-spread-of-requires
 spread-of-requires c κs =
-    let e : tie.Else1 = c .before .before .before in
+    let e : tie.Else1 = c .before .before .before .before in
     let s : tie.Start = start (e .before) in
-    let P = e .before .record-refusal .ensures .1 (e .if1 .left) .passed in
+    let P = e .before .refusal-on .ensures .1 (e .if1 .left) .passed in
     (live-few (s .args .sheet .now) (s .args .self .marking) (s .args .self .firings) (s .args .self .given) P, keys-rise (s .args .sheet .now) (s .args .self .marking) (s .args .self .firings) (s .args .self .given) P)
 
 returns-2 : tie.Need-returns-2
 returns-2 c =
-    let e : tie.Else1 = c .before .before .before .before in
+    let e : tie.Else1 = c .before .before .before .before .before in
     let s : tie.Start = start (e .before) in
-    spread-asked (s .args .sheet .now) (s .args .self) (s .args .key) (e .before .record-refusal .ensures .1 (e .if1 .left)) _ (c .spread-of .ensures)
+    spread-asked (s .args .sheet .now) (s .args .self) (s .args .key) (e .before .refusal-on .ensures .1 (e .if1 .left)) _ (c .spread-of .ensures)
 
 pub spread-spec : {M : Type 1} → statement M
-spread-spec = tie.close (tie.spec record-refusal-requires tell-none-requires returns spread-of-requires returns-2)
+spread-spec = tie.close (tie.spec refusal-on-requires tell-none-requires returns spread-of-requires returns-2)

@@ -6,32 +6,32 @@ use Rattle.session.proofs.Asking.{way-refused, way-asked, way-number}
 use Rattle.session.proofs.Record.way_back.Statement.{statement}
 use Rattle.session.proofs.Record.way_back.Tie as tie
 
-abbrev start : tie.After-record-refusal → tie.Start
-start d = d .before .before .before .before .before .before .before .before .before .before .before .before .before .before .before
+abbrev start : tie.After-refusal-on → tie.Start
+start d = d .before .before .before
 
-record-refusal-requires : tie.Need-record-refusal-requires
-record-refusal-requires c κs = search needs
+refusal-on-requires : tie.Need-refusal-on-requires
+refusal-on-requires c κs = search needs
 
 no-way-requires : tie.Need-no-way-requires
 no-way-requires c κs = search needs
 
 returns : tie.Need-returns
 returns c =
-    let d : tie.After-record-refusal = c .before .before in
+    let d : tie.After-refusal-on = c .before .before in
     let s : tie.Start = start d in
-    let e = c .no-way .ensures ∙ way-refused (s .args .sheet .now) (s .args .self) (s .args .layout .now) _ (d .record-refusal .ensures .0) (c .before .if1 .taken) in
+    let e = c .no-way .ensures ∙ way-refused (s .args .sheet .now) (s .args .self) (s .args .layout .now) _ (d .refusal-on .ensures .0) (c .before .if1 .taken) in
     (e, way-number (s .args .sheet .now) (s .args .self) (s .args .layout .now) _ e)
 
 way-from-requires : tie.Need-way-from-requires
-way-from-requires c κs = let d : tie.After-record-refusal = c .before in let s : tie.Start = start d in (s .args .self .given, d .record-refusal .ensures .1 (c .if1 .left) .passed)
+way-from-requires c κs = let d : tie.After-refusal-on = c .before .before .before in let s : tie.Start = start d in (s .args .self .given, d .refusal-on .ensures .1 (c .before .before .if1 .left) .passed)
 
 returns-2 : tie.Need-returns-2
 returns-2 c =
-    let d : tie.After-record-refusal = c .before .before in
+    let d : tie.After-refusal-on = c .before .before .before .before in
     let s : tie.Start = start d in
-    let p = d .record-refusal .ensures .1 (c .before .if1 .left) in
+    let p = d .refusal-on .ensures .1 (c .before .before .before .if1 .left) in
     let e = c .way-from .ensures (s .args .self .given) (p .passed) ∙ way-asked (s .args .sheet .now) (s .args .self) (s .args .layout .now) p in
     (e, way-number (s .args .sheet .now) (s .args .self) (s .args .layout .now) _ e)
 
 pub way-back-spec : {M : Type 1} → statement M
-way-back-spec = tie.close (tie.spec record-refusal-requires no-way-requires returns way-from-requires returns-2)
+way-back-spec = tie.close (tie.spec refusal-on-requires no-way-requires returns way-from-requires returns-2)
