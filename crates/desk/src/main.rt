@@ -1,9 +1,11 @@
 // The desk: `desk FILE..` goes through scripts, `desk` through one on standard input; `desk make FILE` writes the exam
 // program's input that a script says, `desk show FILE` prints such an input as a script. docs/DESK.md has the lines.
+mod program;
+
 ghost use Prim.Native.Nat.{_<_, _≤_};
-use script::program::Task;
-use script::program::take_file;
-use script::program::take_named;
+use crate::program::Task;
+use crate::program::take_file;
+use crate::program::take_named;
 use script::same::same_bytes;
 
 // Whether an argument is a word.

@@ -4,9 +4,6 @@ use crate::command::command_of;
 use crate::exam::put_orders;
 use crate::form::Form;
 use crate::form::Order;
-use crate::part::between;
-use crate::part::front;
-use crate::put::put_count;
 use crate::sheets::one_more;
 use crate::sheets::plus;
 use crate::state::Desk;
@@ -15,6 +12,9 @@ use crate::state::mistake;
 use crate::state::opened;
 use session::block::BlockAnswer;
 use session::block::block_with;
+use wording::part::between;
+use wording::part::front;
+use wording::put::put_count;
 
 // The most commands of a block, and room for one byte more than they have: what does not fit is refused by 26 without it.
 const MOST: usize = 1000;

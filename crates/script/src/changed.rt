@@ -3,10 +3,10 @@
 ghost use Prim.Native.Nat.{_<_};
 ghost use lib.ListN.{length};
 ghost use mathlib.Core.Path.{_≡_};
-use crate::answer::put_start;
 use crate::form::number;
-use crate::part::front;
 use session_start::start;
+use wording::answer::put_start;
+use wording::part::front;
 
 // Room for any sheet that the format can hold.
 const ROOM: usize = 65536;

@@ -2,9 +2,6 @@
 // and starts; a command or a question has one answer, which the next `expect` is held against, or which is printed.
 ghost use Prim.Native.Nat.{_<_, _≤_};
 ghost use lib.ListN.{length};
-use crate::answer::put_answer;
-use crate::answer::put_start;
-use crate::answer::refusal_of;
 use crate::blocks::at_line;
 use crate::blocks::begin_block;
 use crate::blocks::block_line;
@@ -14,10 +11,6 @@ use crate::command::command_of;
 use crate::form::Form;
 use crate::form::Order;
 use crate::form::form_of;
-use crate::part::behind;
-use crate::part::between;
-use crate::part::front;
-use crate::part::without_comment;
 use crate::questions::put_question;
 use crate::questions::start_refusal;
 use crate::same::same_items;
@@ -42,6 +35,13 @@ use lexing::next;
 use session::command_with;
 use session_start::start;
 use tally::Tally;
+use wording::answer::put_answer;
+use wording::answer::put_start;
+use wording::answer::refusal_of;
+use wording::part::behind;
+use wording::part::between;
+use wording::part::front;
+use wording::part::without_comment;
 
 // ---- sheets
 

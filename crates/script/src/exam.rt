@@ -5,11 +5,6 @@ ghost use lib.ListN.{length};
 use crate::command::command_of;
 use crate::form::Form;
 use crate::form::form_of;
-use crate::part::between;
-use crate::part::front;
-use crate::put::put;
-use crate::put::put_count;
-use crate::put::put_text;
 use crate::sheets::Given;
 use crate::sheets::Slip;
 use crate::sheets::line_end;
@@ -20,6 +15,11 @@ use crate::sheets::sheet_in;
 use crate::sheets::sheet_of;
 use format::byte_at;
 use format::word_at;
+use wording::part::between;
+use wording::part::front;
+use wording::put::put;
+use wording::put::put_count;
+use wording::put::put_text;
 
 // ---- from a script
 

@@ -5,13 +5,13 @@ ghost use lib.ListN.{length};
 use crate::exam::input_sheet;
 use crate::exam::put_command;
 use crate::exam::put_input;
-use crate::part::between;
-use crate::part::front;
-use crate::refused::put_refused;
 use crate::say::print_slip;
 use io::write_all;
 use sheet_print::Printed;
 use sheet_print::print_sheet;
+use wording::part::between;
+use wording::part::front;
+use wording::refused::put_refused;
 
 // Room for an input as long as any that is made: the sheet, and three bytes for each line of a script.
 const INPUT: usize = 1179648;

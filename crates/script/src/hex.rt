@@ -1,9 +1,9 @@
 // Bytes in hexadecimal, two digits each, parted by blanks, as far as a line or its comment goes.
 // Positions past the end read as the end, so nothing is asked of a caller.
-use crate::put::put;
 use format::byte_at;
 use lexing::Class;
 use lexing::end_of;
+use wording::put::put;
 
 // What stands at a position of a line.
 pub enum Digits {

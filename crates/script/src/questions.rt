@@ -1,31 +1,31 @@
 // Questions at the desk and their answers: about the record, the last refusal, the sheet, the pages of live firings.
 // The answer is written from the buffer's start.
-use crate::answer::put_couplings;
-use crate::answer::put_live;
-use crate::answer::put_moved;
-use crate::answer::put_step;
-use crate::answer::put_tally;
-use crate::answer::put_where;
 use crate::changed::put_cut;
 use crate::changed::put_with;
 use crate::form::Question;
-use crate::pages::put_page;
-use crate::pages::put_row;
-use crate::panel::put_lamp;
-use crate::panel::put_lamps;
-use crate::panel::put_listing;
-use crate::panel::put_movers;
-use crate::panel::put_spread;
-use crate::part::front;
-use crate::put::put_phrase;
-use crate::reason::put_reason;
-use crate::refused::put_refused;
 use crate::sheets::plus;
 use crate::state::Desk;
 use format::base_count;
 use session::StartAnswer;
 use session_start::start;
 use why::why;
+use wording::answer::put_couplings;
+use wording::answer::put_live;
+use wording::answer::put_moved;
+use wording::answer::put_step;
+use wording::answer::put_tally;
+use wording::answer::put_where;
+use wording::pages::put_page;
+use wording::pages::put_row;
+use wording::panel::put_lamp;
+use wording::panel::put_lamps;
+use wording::panel::put_listing;
+use wording::panel::put_movers;
+use wording::panel::put_spread;
+use wording::part::front;
+use wording::put::put_phrase;
+use wording::reason::put_reason;
+use wording::refused::put_refused;
 
 // The number that a start was refused by; 0 where it was not.
 pub fn start_refusal(a: StartAnswer) -> u8 {

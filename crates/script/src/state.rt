@@ -2,8 +2,6 @@
 // The counts are of the whole file.
 use crate::command::Command;
 use crate::command::no_command;
-use crate::part::front;
-use crate::refused::put_refused;
 use crate::say::print_answer;
 use crate::say::print_mistake;
 use crate::say::print_refused;
@@ -11,6 +9,8 @@ use crate::sheets::one_more;
 use session::Record;
 use session_start::start;
 use tally::Tally;
+use wording::part::front;
+use wording::refused::put_refused;
 
 pub struct Desk {
     // the line in hand; whether every write went through

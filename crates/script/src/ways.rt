@@ -1,14 +1,5 @@
 // `way back`: the firings to take back so that named parts are at named places (document 02, T-04). A line names each part and its
 // place in the words of a sheet; what it does not name may be anywhere. The set is the customer's call.
-use crate::answer::put_if;
-use crate::part::behind;
-use crate::part::front;
-use crate::put::put;
-use crate::put::put_count;
-use crate::put::put_phrase;
-use crate::put::put_text;
-use crate::reason::put_reason;
-use crate::refused::put_refused;
 use crate::same::item_at;
 use crate::sheets::one_more;
 use crate::state::Desk;
@@ -23,6 +14,15 @@ use net::MAX_LIVE;
 use way_back::WayAnswer;
 use way_back::WayBack;
 use why::Reason;
+use wording::answer::put_if;
+use wording::part::behind;
+use wording::part::front;
+use wording::put::put;
+use wording::put::put_count;
+use wording::put::put_phrase;
+use wording::put::put_text;
+use wording::reason::put_reason;
+use wording::refused::put_refused;
 
 // Room for a byte for each part that a line can name.
 const ROOM: usize = 256;

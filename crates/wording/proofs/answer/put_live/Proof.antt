@@ -1,0 +1,69 @@
+-- `wording::answer::put_live` is safe and ends.
+-- Assumes nothing.
+use borrow.Author.Needs.{needs}
+use mathlib.Core.Path.{_≡_}
+use Prim.Native.Nat.{_-_}
+use lib.ListN.{length}
+use Rattle.wording.proofs.answer.put_live.Statement.{statement}
+use Rattle.wording.proofs.answer.put_live.Tie as tie
+
+abbrev Inv-loop : tie.InvT-loop
+Inv-loop buf₀ live keys pos₀ i₀ buf pos i = length buf ≡ length buf₀
+
+abbrev μ-loop : tie.MeasureT-loop
+μ-loop buf₀ live keys pos₀ i₀ buf pos i = 256 - i
+
+slice-aggregate-put-text : tie.Need-slice-aggregate-put-text Inv-loop μ-loop
+slice-aggregate-put-text c = search needs
+
+put-text-requires : tie.Need-put-text-requires Inv-loop μ-loop
+put-text-requires c κs = search needs
+
+loop-holds : tie.Need-loop-holds Inv-loop μ-loop
+loop-holds c = search needs
+
+mul-put-if : tie.Need-mul-put-if Inv-loop μ-loop
+mul-put-if c = search needs
+
+array-read-put-if : tie.Need-array-read-put-if Inv-loop μ-loop
+array-read-put-if c = search needs
+
+cast-put-if : tie.Need-cast-put-if Inv-loop μ-loop
+cast-put-if c = search needs
+
+put-if-requires : tie.Need-put-if-requires Inv-loop μ-loop
+put-if-requires c κs = search needs
+
+add-i : tie.Need-add-i Inv-loop μ-loop
+add-i c = search needs
+
+loop-less : tie.Need-loop-less Inv-loop μ-loop
+loop-less c = search needs
+
+loop-again : tie.Need-loop-again Inv-loop μ-loop
+loop-again c = search needs
+
+same-length : tie.Need-same-length Inv-loop μ-loop
+same-length c = search needs
+
+returns : tie.Need-returns Inv-loop μ-loop
+returns c = search needs
+
+pub put-live-spec : {M : Type 1} → statement M
+put-live-spec =
+    tie.close
+    (tie.spec
+    Inv-loop
+    μ-loop
+    slice-aggregate-put-text
+    put-text-requires
+    loop-holds
+    mul-put-if
+    array-read-put-if
+    cast-put-if
+    put-if-requires
+    add-i
+    loop-less
+    loop-again
+    same-length
+    returns)

@@ -1,0 +1,65 @@
+-- `wording::answer::put_where` is safe and ends.
+-- Assumes nothing.
+use borrow.Author.Needs.{needs}
+use mathlib.Core.Path.{_≡_}
+use Prim.Native.Nat.{_-_}
+use lib.ListN.{length}
+use Rattle.wording.proofs.answer.put_where.Statement.{statement}
+use Rattle.wording.proofs.answer.put_where.Tie as tie
+
+abbrev Inv-loop : tie.InvT-loop
+Inv-loop buf₀ n places pos₀ p₀ buf pos p = length buf ≡ length buf₀
+
+abbrev μ-loop : tie.MeasureT-loop
+μ-loop buf₀ n places pos₀ p₀ buf pos p = 64 - p
+
+slice-aggregate-put-text : tie.Need-slice-aggregate-put-text Inv-loop μ-loop
+slice-aggregate-put-text c = search needs
+
+put-text-requires : tie.Need-put-text-requires Inv-loop μ-loop
+put-text-requires c κs = search needs
+
+loop-holds : tie.Need-loop-holds Inv-loop μ-loop
+loop-holds c = search needs
+
+array-read-put-if : tie.Need-array-read-put-if Inv-loop μ-loop
+array-read-put-if c = search needs
+
+cast-put-if : tie.Need-cast-put-if Inv-loop μ-loop
+cast-put-if c = search needs
+
+put-if-requires : tie.Need-put-if-requires Inv-loop μ-loop
+put-if-requires c κs = search needs
+
+add-p : tie.Need-add-p Inv-loop μ-loop
+add-p c = search needs
+
+loop-less : tie.Need-loop-less Inv-loop μ-loop
+loop-less c = search needs
+
+loop-again : tie.Need-loop-again Inv-loop μ-loop
+loop-again c = search needs
+
+same-length : tie.Need-same-length Inv-loop μ-loop
+same-length c = search needs
+
+returns : tie.Need-returns Inv-loop μ-loop
+returns c = search needs
+
+pub put-where-spec : {M : Type 1} → statement M
+put-where-spec =
+    tie.close
+    (tie.spec
+    Inv-loop
+    μ-loop
+    slice-aggregate-put-text
+    put-text-requires
+    loop-holds
+    array-read-put-if
+    cast-put-if
+    put-if-requires
+    add-p
+    loop-less
+    loop-again
+    same-length
+    returns)
