@@ -5,3 +5,4 @@ pub mod Labels
 pub mod Sending
 pub mod Whole
 pub mod Moved
+pub mod Arrays

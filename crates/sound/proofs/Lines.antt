@@ -18,7 +18,7 @@ use Rattle.net.specs.Net.{Net, arcsOf}
 use Rattle.net.specs.Marking.{Good}
 use Rattle.net.specs.Firing.{moves, moved, fire}
 use Rattle.net.specs.Checks.{clear, first}
-use Rattle.net.specs.Journal.{LiveLine, noLine, enableChecks}
+use Rattle.net.specs.Journal.{LiveLine, noLine, transition, enableChecks}
 use Rattle.net.specs.History.{sameMarking, accepts, replays}
 use Rattle.net.specs.declared.Transition.{Transition}
 use Rattle.net.proofs.Tests.{and-l, same-test, same-e, same-i, beq-e, beq-i}
@@ -112,27 +112,40 @@ same-word n w x l h size e = same-test (eqb w x) (sameList Bool·beq (setOf n x)
     let z : setOf n x ≡ l = same-e Bool·beq beq-e (setOf n x) l q in
     eq-eqb w x (e ∙ ap packed (sym z) ∙ packed-set n x h))
 
-module _ (s : List ℕ) (m : Marking) (f : Firing) where
+-- t is the transition that the firing names
+module _ (s : List ℕ) (m : Marking) (f : Firing) (t : Transition) (k : t ≡ transition (f .transition)) where
   abbrev line : LiveLine
   line = asLine (basesOf s) f
 
   abbrev seen : Net.Marking
   seen = markingOf (basesOf s) m
 
-  pub line-refused : (r : ℕ) → r ≡ first (enableChecks (netOf s) seen (line .transition)) → (r ≡ 0 → ⊥) → false ≡ accepts (netOf s) seen line
-  line-refused r e h = sym (ap (λ (b : Bool). b && sameList Bool·beq (line .moved) (moved (netOf s .bases) (arcsOf (netOf s) (line .transition)) seen))
-      (enabled-first (netOf s) seen (line .transition) ∙ ap (λ (k : ℕ). eqb k 0) (sym e) ∙ ne-eqb r 0 h))
+  -- the line is accepted where t is enabled and moves just its bases
+  accepts-by : (b : Bool) → clear (enableChecks (netOf s) seen t) ≡ b → accepts (netOf s) seen line ≡ (b && sameList Bool·beq (line .moved) (moved (netOf s .bases) (arcsOf (netOf s) t) seen))
+  accepts-by b h = ap (λ (x : Transition). clear (enableChecks (netOf s) seen x) && sameList Bool·beq (line .moved) (moved (netOf s .bases) (arcsOf (netOf s) x) seen)) (sym k)
+      ∙ ap (λ (x : Bool). x && sameList Bool·beq (line .moved) (moved (netOf s .bases) (arcsOf (netOf s) t) seen)) h
 
-  pub line-clear : (r : ℕ) → r ≡ first (enableChecks (netOf s) seen (line .transition)) → r ≡ 0 → clear (enableChecks (netOf s) seen (line .transition)) ≡ true
-  line-clear r e h = enabled-first (netOf s) seen (line .transition) ∙ ap (λ (k : ℕ). eqb k 0) (sym e) ∙ eq-eqb r 0 h
+  pub line-refused : (r : ℕ) → r ≡ first (enableChecks (netOf s) seen t) → (r ≡ 0 → ⊥) → false ≡ accepts (netOf s) seen line
+  line-refused r e h = sym (accepts-by false (enabled-first (netOf s) seen t ∙ ap (λ (n : ℕ). eqb n 0) (sym e) ∙ ne-eqb r 0 h))
 
-  pub line-same : (w : ℕ) → clear (enableChecks (netOf s) seen (line .transition)) ≡ true → f .moved < 2 ^ basesOf s
-      → w ≡ packed (moved (basesOf s) (arcsOf (netOf s) (line .transition)) seen) → eqb w (f .moved) ≡ accepts (netOf s) seen line
-  unfolding netOf
-  line-same w h low e =
-      let t = arcsOf (netOf s) (line .transition) in
-      same-word (basesOf s) w (f .moved) (moved (basesOf s) t seen) low (length-table (basesOf s) (moves (seen .bonds) (t .entries))) e
-      ∙ ap (λ (c : Bool). c && sameList Bool·beq (line .moved) (moved (basesOf s) t seen)) (sym h)
+  -- r is the refusal's number
+  module _ (r : ℕ) (e : r ≡ first (enableChecks (netOf s) seen t)) (h : r ≡ 0) where
+    line-clear : clear (enableChecks (netOf s) seen t) ≡ true
+    line-clear = enabled-first (netOf s) seen t ∙ ap (λ (n : ℕ). eqb n 0) (sym e) ∙ eq-eqb r 0 h
+
+    pub line-listed : t .0 < transitionsOf s
+    line-listed = enabled-listed s seen t line-clear
+
+    -- w is the word of the bases that t moved
+    pub line-same : (w : ℕ) → f .moved < 2 ^ basesOf s → w ≡ packed (moved (basesOf s) (arcsOf (netOf s) t) seen) → eqb w (f .moved) ≡ accepts (netOf s) seen line
+    unfolding netOf
+    line-same w low d =
+        same-word (basesOf s) w (f .moved) (moved (basesOf s) (arcsOf (netOf s) t) seen) low (length-table (basesOf s) (moves (seen .bonds) (arcsOf (netOf s) t .entries))) d
+        ∙ sym (accepts-by true line-clear)
+
+  -- the marking after t is that after the line
+  pub line-fired : (z : Marking) → z ≡ laid (fire (basesOf s) (arcsOf (netOf s) t) seen) → z ≡ laid (fire (basesOf s) (arcsOf (netOf s) (line .transition)) seen)
+  line-fired z q = q ∙ ap (λ (x : Transition). laid (fire (basesOf s) (arcsOf (netOf s) x) seen)) k
 
 -- ---- the run
 
@@ -148,35 +161,39 @@ module _ (s : List ℕ) (f : Firings) where
       let size : i < length lines = rw length-table h in
       drop-cons lines i noLine size ∙ ap (λ (l : LiveLine). l ∷ drop (suc i) lines) (getD-table (f .live) lineAt i noLine h)
 
-  -- the run of the rest, by its first line
-  run-step : (z : Net.Marking) (m : Marking) (i : ℕ) → i < f .live → replays (netOf s) (markingOf (basesOf s) m) (drop i lines) z
-      ≡ (accepts (netOf s) (markingOf (basesOf s) m) (lineAt i)
-      && replays (netOf s) (fire (netOf s .bases) (arcsOf (netOf s) (lineAt i .transition)) (markingOf (basesOf s) m)) (drop (suc i) lines) z)
-  run-step z m i h = ap (λ (ls : List LiveLine). replays (netOf s) (markingOf (basesOf s) m) ls z) (lines-cons i h)
+  -- the run from m₀ is the run of what is left from i on, from m
+  abbrev pub Runs : Marking → Marking → ℕ → Type 0
+  Runs m₀ m i = (z : Net.Marking) → replays (netOf s) (markingOf (basesOf s) m₀) lines z ≡ replays (netOf s) (markingOf (basesOf s) m) (drop i lines) z
 
-  pub run-stops : (z : Net.Marking) (m : Marking) (i : ℕ) → i < f .live → accepts (netOf s) (markingOf (basesOf s) m) (lineAt i) ≡ false
-      → replays (netOf s) (markingOf (basesOf s) m) (drop i lines) z ≡ false
-  run-stops z m i h a = run-step z m i h ∙ ap (λ (b : Bool). b && replays (netOf s) (fire (netOf s .bases) (arcsOf (netOf s) (lineAt i .transition)) (markingOf (basesOf s) m)) (drop (suc i) lines) z) a
+  module _ (m₀ m : Marking) (i : ℕ) (R : Runs m₀ m i) where
+    pub run-ends : f .live ≤ i → (z : Net.Marking) → replays (netOf s) (markingOf (basesOf s) m₀) lines z ≡ sameMarking (markingOf (basesOf s) m) z
+    run-ends h z =
+        let size : length lines ≤ i = rw length-table h in
+        R z ∙ ap (λ (ls : List LiveLine). replays (netOf s) (markingOf (basesOf s) m) ls z) (drop-of-length-le lines size)
 
-  pub run-goes : (z : Net.Marking) (m m′ : Marking) (i : ℕ) → i < f .live → accepts (netOf s) (markingOf (basesOf s) m) (lineAt i) ≡ true
-      → m′ ≡ laid (fire (basesOf s) (arcsOf (netOf s) (lineAt i .transition)) (markingOf (basesOf s) m))
-      → replays (netOf s) (markingOf (basesOf s) m) (drop i lines) z ≡ replays (netOf s) (markingOf (basesOf s) m′) (drop (i + 1) lines) z
-  unfolding netOf
-  run-goes z m m′ i h a q =
-      let y : Net.Marking = fire (basesOf s) (arcsOf (netOf s) (lineAt i .transition)) (markingOf (basesOf s) m) in
-      let back : markingOf (basesOf s) m′ ≡ y = ap (markingOf (basesOf s)) q ∙ marking-laid y (basesOf s) (length-table (basesOf s) _) in
-      run-step z m i h ∙ ap (λ (b : Bool). b && replays (netOf s) y (drop (suc i) lines) z) a
-      ∙ (λ j. replays (netOf s) (sym back j) (drop (sym (add-one i) j) lines) z)
+    -- g is the firing at i, and a whether it is accepted
+    module _ (h : i < f .live) (g : Firing) (k : g ≡ firingAt (f .transitions) (f .keys) (f .moved) i) (a : Bool) (e : a ≡ accepts (netOf s) (markingOf (basesOf s) m) (asLine (basesOf s) g)) where
+      by-line : (z : Net.Marking) (b : Bool) → a ≡ b → replays (netOf s) (markingOf (basesOf s) m₀) lines z
+          ≡ (b && replays (netOf s) (fire (netOf s .bases) (arcsOf (netOf s) (lineAt i .transition)) (markingOf (basesOf s) m)) (drop (suc i) lines) z)
+      by-line z b q = R z ∙ ap (λ (ls : List LiveLine). replays (netOf s) (markingOf (basesOf s) m) ls z) (lines-cons i h)
+          ∙ ap (λ (c : Bool). c && replays (netOf s) (fire (netOf s .bases) (arcsOf (netOf s) (lineAt i .transition)) (markingOf (basesOf s) m)) (drop (suc i) lines) z)
+          (ap (λ (x : Firing). accepts (netOf s) (markingOf (basesOf s) m) (asLine (basesOf s) x)) (sym k) ∙ sym e ∙ q)
 
-  -- an accepted line keeps a good marking good
-  pub placed-goes : (m m′ : Marking) (i : ℕ) → Placed s m → accepts (netOf s) (markingOf (basesOf s) m) (lineAt i) ≡ true
-      → m′ ≡ laid (fire (basesOf s) (arcsOf (netOf s) (lineAt i .transition)) (markingOf (basesOf s) m)) → Placed s m′
-  placed-goes m m′ i P a q = rw q (placed-fired s m (lineAt i .transition) P (and-l (clear (enableChecks (netOf s) (markingOf (basesOf s) m) (lineAt i .transition))) _ a))
+      pub run-stops : a ≡ false → (z : Net.Marking) → replays (netOf s) (markingOf (basesOf s) m₀) lines z ≡ false
+      run-stops q z = by-line z false q
 
-  pub run-ends : (z : Net.Marking) (m : Marking) (i : ℕ) → f .live ≤ i → replays (netOf s) (markingOf (basesOf s) m) (drop i lines) z ≡ sameMarking (markingOf (basesOf s) m) z
-  run-ends z m i h =
-      let size : length lines ≤ i = rw length-table h in
-      ap (λ (ls : List LiveLine). replays (netOf s) (markingOf (basesOf s) m) ls z) (drop-of-length-le lines size)
+      -- m′ is the marking after it: a good one where m is
+      module _ (m′ : Marking) (q : a ≡ true) (to : m′ ≡ laid (fire (basesOf s) (arcsOf (netOf s) (asLine (basesOf s) g .transition)) (markingOf (basesOf s) m))) where
+        pub run-goes : Runs m₀ m′ (i + 1)
+        unfolding netOf
+        run-goes z =
+            let y : Net.Marking = fire (basesOf s) (arcsOf (netOf s) (lineAt i .transition)) (markingOf (basesOf s) m) in
+            let at : m′ ≡ laid y = to ∙ ap (λ (x : Firing). laid (fire (basesOf s) (arcsOf (netOf s) (asLine (basesOf s) x .transition)) (markingOf (basesOf s) m))) k in
+            let back : markingOf (basesOf s) m′ ≡ y = ap (markingOf (basesOf s)) at ∙ marking-laid y (basesOf s) (length-table (basesOf s) _) in
+            by-line z true q ∙ (λ j. replays (netOf s) (sym back j) (drop (sym (add-one i) j) lines) z)
+
+        pub placed-goes : Placed s m → Placed s m′
+        placed-goes P = rw to (placed-fired s m (asLine (basesOf s) g .transition) P (and-l (clear (enableChecks (netOf s) (markingOf (basesOf s) m) (asLine (basesOf s) g .transition))) _ (sym e ∙ q)))
 
 -- ---- what a run answers
 

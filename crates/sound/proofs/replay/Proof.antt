@@ -20,7 +20,7 @@ use Rattle.marking.specs.Held.{holding}
 use Rattle.firings.specs.Lines.{lying, linesIn}
 use Rattle.firings.specs.declared.Firings.{Firings}
 use Rattle.steps.specs.Placed.{Placed}
-use Rattle.sound.proofs.Lines.{placed-room, run-stops, run-goes, placed-goes, run-ends}
+use Rattle.sound.proofs.Lines.{placed-room, Runs, run-stops, run-goes, placed-goes, run-ends}
 use Rattle.sound.proofs.replay.Statement.{statement}
 use Rattle.sound.proofs.replay.Tie as tie
 
@@ -29,15 +29,17 @@ abbrev Inv-loop : tie.InvT-loop
 Inv-loop sheet live transitions keys moved places₀ count lo₀ hi₀ l₀ members₀ held₀ i₀ places lo hi l members held i =
     (i ≤ live) × (live ≤ maxLive) × Placed sheet (holding places held lo hi) × Labelled l members (bondsIn lo hi held)
     × ((j : ℕ) → j < live → getD moved j 0 < 2 ^ basesOf sheet)
-    × ((z : Net.Marking) → replays (netOf sheet) (markingOf (basesOf sheet) (holding places₀ count lo₀ hi₀)) (linesIn (basesOf sheet) (lying live transitions keys moved)) z
-    ≡ replays (netOf sheet) (markingOf (basesOf sheet) (holding places held lo hi)) (drop i (linesIn (basesOf sheet) (lying live transitions keys moved))) z)
+    × Runs sheet (lying live transitions keys moved) (holding places₀ count lo₀ hi₀) (holding places held lo hi) i
 
 abbrev μ-loop : tie.MeasureT-loop
 μ-loop sheet live transitions keys moved places₀ count lo₀ hi₀ l₀ members₀ held₀ i₀ places lo hi l members held i = live - i
 
--- the firings that were lent, and the marking at a turn
+-- the firings and the marking that were lent, and the marking at a turn
 abbrev lent : tie.Start Inv-loop μ-loop → Firings
 lent s = lying (s .args .live) (s .args .transitions .now) (s .args .keys .now) (s .args .moved .now)
+
+abbrev begin : tie.Start Inv-loop μ-loop → Marking
+begin s = holding (s .args .places .now) (s .args .count) (s .args .lo .now) (s .args .hi .now)
 
 abbrev held : tie.At-loop Inv-loop μ-loop → Marking
 held c = holding (c .loop .places) (c .loop .held) (c .loop .lo) (c .loop .hi)
@@ -61,9 +63,9 @@ returns c =
     let d : tie.After-replay-one Inv-loop μ-loop = c .before .before in
     let f : tie.After-firing-at Inv-loop μ-loop = d .before .before .before .before .before .before in
     let at : tie.At-loop Inv-loop μ-loop = f .before .before in
-    let s : tie.Start Inv-loop μ-loop = at .before .before in
-    let no = sym (rw (f .firing-at .ensures) at (d .replay-one .ensures .0)) ∙ not-true _ (c .if1 .taken) in (
-      (λ z. at .loop .inv .5 z ∙ run-stops (s .args .sheet .now) (lent s) z (held at) (at .loop .i) (f .before .loop-test .taken) no),
+    let s : tie.Start Inv-loop μ-loop = at .before .before in (
+      run-stops (s .args .sheet .now) (lent s) (begin s) (held at) (at .loop .i) (at .loop .inv .5) (f .before .loop-test .taken) (f .firing-at .result) (f .firing-at .ensures)
+          (d .replay-one .result .accepted) (d .replay-one .ensures .0) (not-true (d .replay-one .result .accepted) (c .if1 .taken)),
       λ h. both false h refl,
     )
 
@@ -79,22 +81,23 @@ loop-again c =
     let f : tie.After-firing-at Inv-loop μ-loop = d .before .before .before .before .before .before in
     let at : tie.At-loop Inv-loop μ-loop = f .before .before in
     let s : tie.Start Inv-loop μ-loop = at .before .before in
-    let e = not-false _ (c .if1 .left) in
-    let yes = sym (rw (f .firing-at .ensures) at (d .replay-one .ensures .0)) ∙ e in
-    let (to, labels) = rw (f .firing-at .ensures) at (d .replay-one .ensures .1) e in (
+    let yes = not-false (d .replay-one .result .accepted) (c .if1 .left) in
+    let done = d .replay-one .ensures .1 yes in (
       search needs,
       search needs,
-      placed-goes (s .args .sheet .now) (lent s) (held at) _ (at .loop .i) (at .loop .inv .2) yes to,
-      labels,
+      placed-goes (s .args .sheet .now) (lent s) (begin s) (held at) (at .loop .i) (at .loop .inv .5) (f .before .loop-test .taken) (f .firing-at .result) (f .firing-at .ensures)
+          (d .replay-one .result .accepted) (d .replay-one .ensures .0) _ yes (done .0) (at .loop .inv .2),
+      done .1,
       at .loop .inv .4,
-      λ z. at .loop .inv .5 z ∙ run-goes (s .args .sheet .now) (lent s) z (held at) _ (at .loop .i) (f .before .loop-test .taken) yes to,
+      run-goes (s .args .sheet .now) (lent s) (begin s) (held at) (at .loop .i) (at .loop .inv .5) (f .before .loop-test .taken) (f .firing-at .result) (f .firing-at .ensures)
+          (d .replay-one .result .accepted) (d .replay-one .ensures .0) _ yes (done .0),
     )
 
 returns-2 : tie.Need-returns-2 Inv-loop μ-loop
 returns-2 c =
     let at : tie.At-loop Inv-loop μ-loop = c .before in
     let s : tie.Start Inv-loop μ-loop = at .before .before in (
-      (λ z. at .loop .inv .5 z ∙ run-ends (s .args .sheet .now) (lent s) z (held at) (at .loop .i) (c .loop-test .left)),
+      run-ends (s .args .sheet .now) (lent s) (begin s) (held at) (at .loop .i) (at .loop .inv .5) (c .loop-test .left),
       λ h. placed-room (s .args .sheet .now) (held at) (at .loop .inv .2),
     )
 

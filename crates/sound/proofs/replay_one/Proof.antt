@@ -1,17 +1,12 @@
 -- `sound::replay_one` meets its contract.
 -- Assumes nothing but the laws of proofs/.
 use borrow.Author.Needs.{needs}
-use mathlib.Core.Path.{_≡_, refl}
-use mathlib.Core.Bool.{true, false}
+use mathlib.Core.Path.{refl}
+use mathlib.Core.Bool.{false}
 use Rattle.causal.proofs.Tests.{both}
-use Rattle.net.specs.Checks.{clear}
-use Rattle.net.specs.Journal.{transition, enableChecks}
-use Rattle.format.specs.Parts.{basesOf}
-use Rattle.format.specs.NetOf.{netOf}
 use Rattle.marking.specs.declared.Marking.{Marking}
-use Rattle.marking.specs.Form.{markingOf}
 use Rattle.marking.specs.Held.{holding}
-use Rattle.sound.proofs.Lines.{enabled-listed, line-refused, line-clear, line-same}
+use Rattle.sound.proofs.Lines.{line-refused, line-listed, line-same, line-fired}
 use Rattle.sound.proofs.replay_one.Statement.{statement}
 use Rattle.sound.proofs.replay_one.Tie as tie
 
@@ -25,10 +20,6 @@ named c = c .before .before .before .before .before
 abbrev lent : tie.After-enable-refusal → Marking
 lent c = holding (start c .args .places .now) (start c .args .count) (start c .args .lo .now) (start c .args .hi .now)
 
--- a line that is not refused
-passed : (c : tie.Else1) → clear (enableChecks (netOf (start (c .before) .args .sheet .now)) (markingOf (basesOf (start (c .before) .args .sheet .now)) (lent (c .before))) (transition (start (c .before) .args .f .transition))) ≡ true
-passed c = line-clear (start (c .before) .args .sheet .now) (lent (c .before)) (start (c .before) .args .f) _ (rw (named (c .before) .transition-of .ensures) at (c .before .enable-refusal .ensures)) (c .if1 .left)
-
 transition-of-requires : tie.Need-transition-of-requires
 transition-of-requires c κs = search needs
 
@@ -36,25 +27,30 @@ enable-refusal-requires : tie.Need-enable-refusal-requires
 enable-refusal-requires c κs = let from : tie.Start = c .before .before .before .before .before .before in (from .pre .0, from .pre .1 .parted)
 
 returns : tie.Need-returns
-returns c = (
-  line-refused (start (c .before) .args .sheet .now) (lent (c .before)) (start (c .before) .args .f) _ (rw (named (c .before) .transition-of .ensures) at (c .before .enable-refusal .ensures)) (c .if1 .taken),
-  λ h. both false h refl,
-)
+returns c =
+    let r : tie.After-enable-refusal = c .before in (
+      line-refused (start r .args .sheet .now) (lent r) (start r .args .f) (named r .transition-of .result) (named r .transition-of .ensures) (r .enable-refusal .result) (r .enable-refusal .ensures) (c .if1 .taken),
+      λ h. both false h refl,
+    )
 
 fire-in-requires : tie.Need-fire-in-requires
 fire-in-requires c κs =
     let e : tie.Else1 = c .before .before .before .before .before in
-    let from : tie.Start = start (e .before) in
-    (from .pre .0, from .pre .1, rw (named (e .before) .transition-of .ensures) (enabled-listed (from .args .sheet .now) (markingOf (basesOf (from .args .sheet .now)) (lent (e .before))) (transition (from .args .f .transition)) (passed e)))
+    let r : tie.After-enable-refusal = e .before in (
+      start r .pre .0,
+      start r .pre .1,
+      line-listed (start r .args .sheet .now) (lent r) (start r .args .f) (named r .transition-of .result) (named r .transition-of .ensures) (r .enable-refusal .result) (r .enable-refusal .ensures) (e .if1 .left),
+    )
 
 returns-2 : tie.Need-returns-2
 returns-2 c =
     let d : tie.After-fire-in = c .before .before in
     let e : tie.Else1 = d .before .before .before .before .before .before in
-    let from : tie.Start = start (e .before) in
-    let t = named (e .before) .transition-of .ensures in (
-      line-same (from .args .sheet .now) (lent (e .before)) (from .args .f) _ (passed e) (from .pre .2) (rw t at (d .fire-in .ensures .1 .0)),
-      λ h. (rw t at (d .fire-in .ensures .0), d .fire-in .ensures .1 .1),
+    let r : tie.After-enable-refusal = e .before in
+    (
+      line-same (start r .args .sheet .now) (lent r) (start r .args .f) (named r .transition-of .result) (named r .transition-of .ensures) (r .enable-refusal .result) (r .enable-refusal .ensures) (e .if1 .left)
+          (d .fire-in .result .moved) (start r .pre .2) (d .fire-in .ensures .1 .0),
+      λ h. (line-fired (start r .args .sheet .now) (lent r) (start r .args .f) (named r .transition-of .result) (named r .transition-of .ensures) _ (d .fire-in .ensures .0), d .fire-in .ensures .1 .1),
     )
 
 pub replay-one-spec : {M : Type 1} → statement M
