@@ -73,7 +73,7 @@ module _ (n : ℕ) (step : List ℕ) (m : Marking) (R : Ready n (arcsIn step) m)
         → (over ps two ≡ laid (fire n (arcsIn step) (markingOf n m))) × Labelled l w (bondsOf two)
     fired-end l₀ w₀ l w ps L f e =
         let whole : eqb (one .count) (m .count) ≡ true → bondsOf two ≡ puts sameBond lessBond (arcsIn step .outBonds) (bondsOf m)
-              = λ h. fired-whole n (arcsIn step) m R (over (m .places) one) (over (m .places) two) (ap (over (m .places)) p) (ap (over (m .places)) q) (eqb-true (one .count) (m .count) h) in
+        = λ h. fired-whole n (arcsIn step) m R (over (m .places) one) (over (m .places) two) (ap (over (m .places)) p) (ap (over (m .places)) q) (eqb-true (one .count) (m .count) h) in
         let K : Labelled l w (bondsOf two) = f (bondsOf m) L whole in
         (fire-made n (arcsIn step) m R (over (m .places) two) (fired .0) (fired .1) l (K .parted) ps e, K)
 

@@ -54,7 +54,7 @@ returns c =
     let a : tie.After-take-broken = p .before .before .before in
     let s = start a in
     fired-end (s .args .n) (s .args .step .now) (m s) (s .pre .0) _ _ (a .take-broken .ensures) (p .put-bonds .ensures) (s .args .l .now) (s .args .members .now)
-        (f .label-fired .last .1 .0) (f .label-fired .last .1 .1 .0) (c .send-entries .last .1 .1 .0) (s .pre .1) (f .label-fired .ensures) (c .send-entries .ensures)
+    (f .label-fired .last .1 .0) (f .label-fired .last .1 .1 .0) (c .send-entries .last .1 .1 .0) (s .pre .1) (f .label-fired .ensures) (c .send-entries .ensures)
 
 pub fire-in-spec : {M : Type 1} → statement M
 fire-in-spec = tie.close (tie.spec breaks-none-requires take-broken-requires put-bonds-requires label-fired-requires send-entries-requires returns)

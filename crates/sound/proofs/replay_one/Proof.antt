@@ -46,8 +46,7 @@ returns-2 : tie.Need-returns-2
 returns-2 c =
     let d : tie.After-fire-in = c .before .before in
     let e : tie.Else1 = d .before .before .before .before .before .before in
-    let r : tie.After-enable-refusal = e .before in
-    (
+    let r : tie.After-enable-refusal = e .before in (
       line-same (start r .args .sheet .now) (lent r) (start r .args .f) (named r .transition-of .result) (named r .transition-of .ensures) (r .enable-refusal .result) (r .enable-refusal .ensures) (e .if1 .left)
           (d .fire-in .result .moved) (start r .pre .2) (d .fire-in .ensures .1 .0),
       λ h. (line-fired (start r .args .sheet .now) (lent r) (start r .args .f) (named r .transition-of .result) (named r .transition-of .ensures) _ (d .fire-in .ensures .0), d .fire-in .ensures .1 .1),

@@ -4,6 +4,8 @@ use borrow.Author.Needs.{needs}
 use Rattle.sound.proofs.Lines.{placed-fits, placed-ends}
 use Rattle.sound.proofs.Holds.{placed}
 use Rattle.session.proofs.Stays.{did-performs}
+use Rattle.marking.specs.Held.{holding}
+use Rattle.firings.specs.Lines.{lying}
 use Rattle.session.proofs.Record.perform.Statement.{statement}
 use Rattle.session.proofs.Record.perform.Tie as tie
 
@@ -26,7 +28,8 @@ perform-in-requires c κs = search needs
 returns : tie.Need-returns
 returns c =
     let s : tie.Start = c .before .before .before .before .before .before .before .before .before .before .before .before .before .before .before .before .before .before .before .before .before .before .before .before .before .before .before .before in
-    did-performs (s .args .sheet .now) (s .args .self) (s .pre) (s .args .bytes .now) _ _ _ _ (c .before .before .perform-in .ensures .0)
+    let p : tie.After-perform-in = c .before .before in
+    did-performs (s .args .sheet .now) (s .args .self) (s .pre) (s .args .bytes .now) (p .perform-in .result) (holding (p .perform-in .last .1 .1 .0) (p .perform-in .result .count) (p .perform-in .last .1 .1 .1 .1 .0) (p .perform-in .last .1 .1 .1 .1 .1 .0)) (lying (p .perform-in .result .live) (p .perform-in .last .1 .1 .1 .1 .1 .1 .1 .0) (p .perform-in .last .1 .1 .1 .1 .1 .1 .1 .1 .0) (p .perform-in .last .1 .1 .1 .1 .1 .1 .1 .1 .1 .0)) (p .perform-in .last .1 .1 .1 .1 .1 .1 .1 .1 .1 .1 .0) (p .perform-in .ensures .0)
 
 pub perform-spec : {M : Type 1} → statement M
 perform-spec =

@@ -36,6 +36,10 @@ start c = c .before .before .before .before .before .before .before .before .bef
 abbrev held : tie.At-loop Inv-loop μ-loop → Record
 held c = recordAt (c .loop .places) (c .loop .count) (c .loop .lo) (c .loop .hi) (c .loop .live) (c .loop .transitions) (c .loop .keys) (c .loop .moved) (c .loop .movers) (c .loop .given)
 
+-- the record that they hold after one command more
+abbrev next : tie.After-step-in Inv-loop μ-loop → Record
+next d = recordAt (d .step-in .last .1 .1 .1 .0) (d .step-in .result .count) (d .step-in .last .1 .1 .1 .1 .1 .0) (d .step-in .last .1 .1 .1 .1 .1 .1 .0) (d .step-in .result .live) (d .step-in .last .1 .1 .1 .1 .1 .1 .1 .1 .0) (d .step-in .last .1 .1 .1 .1 .1 .1 .1 .1 .1 .0) (d .step-in .last .1 .1 .1 .1 .1 .1 .1 .1 .1 .1 .0) (d .step-in .last .1 .1 .1 .1 .1 .1 .1 .1 .1 .1 .1 .0) (d .step-in .result .given)
+
 slice-aggregate-label-in : tie.Need-slice-aggregate-label-in Inv-loop μ-loop
 slice-aggregate-label-in c = let arrays = c .before .before .before .before .before .before .before .before .before .before .before .before .before .before .before .before .good .0 in search needs
 
@@ -120,9 +124,9 @@ loop-again c =
       search needs,
       simp length-set (at .loop .inv .4),
       simp length-set (at .loop .inv .5),
-      step-sound (s .args .sheet .now) (held at) (at .loop .inv .6) (at .loop .counts) _ _ _ (d .step-in .ensures .0),
+      step-sound (s .args .sheet .now) (held at) (at .loop .inv .6) (at .loop .counts) (q .command-at .result .now) (d .step-in .result) (next d) (d .step-in .ensures .0),
       d .step-in .ensures .1,
-      upto-more (s .args .sheet .now) b (s .args .r) (s .args .t) (s .args .words .now) (s .args .values .now) (at .loop .i) (held at) (at .loop .counts) (at .loop .words) (at .loop .values) (at .loop .inv .8) _ part _ _ (d .step-in .ensures .0),
+      upto-more (s .args .sheet .now) b (s .args .r) (s .args .t) (s .args .words .now) (s .args .values .now) (at .loop .i) (held at) (at .loop .counts) (at .loop .words) (at .loop .values) (at .loop .inv .8) (q .command-at .result .now) part (d .step-in .result) (next d) (d .step-in .ensures .0),
       at .loop .inv .9,
     )
 
