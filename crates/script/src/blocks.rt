@@ -1,20 +1,31 @@
 // Commands handed in together (document 02, T-02). The lines of a block are passed until `hand in`, which reads them again, joins
 // their commands' bytes and hands them in by the customer's call; the answers come as two lists, a word and a value each.
+use crate::command::COUNT;
+use crate::command::UNREAD;
 use crate::command::command_of;
 use crate::exam::put_orders;
-use crate::form::Form;
-use crate::form::Order;
-use crate::sheets::one_more;
 use crate::sheets::plus;
-use crate::state::Desk;
+use crate::state::BLOCK_BYTES;
+use crate::state::BLOCK_FROM;
+use crate::state::IN_BLOCK;
+use crate::state::LENGTH;
+use crate::state::REFUSAL;
+use crate::state::STATE;
 use crate::state::bad_bytes;
+use crate::state::keep_tally;
 use crate::state::mistake;
 use crate::state::opened;
+use crate::state::tally_of;
+use session::Record;
 use session::block::BlockAnswer;
+use session::block::BlockCounted;
+use session::block::BlockOutcome;
 use session::block::block_with;
-use wording::part::between;
+use wording::answer::put_heard;
 use wording::part::front;
+use wording::put::put;
 use wording::put::put_count;
+use wording::put::put_refusal;
 
 // The most commands of a block, and room for one byte more than they have: what does not fit is refused by 26 without it.
 const MOST: usize = 1000;
@@ -40,13 +51,8 @@ fn put_one(buf: &mut [u8], at: usize, mine: bool, word: u8, value: u16) -> usize
     if !mine {
         return at;
     }
-    if word == 0 {
-        return put_count(buf, at, b" fired", value as usize);
-    }
-    if word == 1 {
-        return put_count(buf, at, b" undone", value as usize);
-    }
-    put_count(buf, at, b" refused", value as usize)
+    let a = put(buf, at, b' ');
+    put_heard(buf, a, word, value)
 }
 
 // `ran N` and the N answers.
@@ -76,7 +82,7 @@ fn put_handed(
     values: &[u16; MOST],
 ) -> usize {
     if refusal != 0 {
-        return put_count(buf, 0, b"refused", refusal as usize);
+        return put_refusal(buf, refusal);
     }
     put_ran(buf, n, words, values)
 }
@@ -84,96 +90,90 @@ fn put_handed(
 // ---- the lines
 
 // `block`, which ends at a position of the text.
-pub fn begin_block(d: Desk, to: usize) -> Desk {
-    let mut x = d;
-    x.in_block = true;
-    x.block_from = to;
-    x.block_bytes = 0;
-    x
+pub fn begin_block(d: &mut [usize; STATE], to: usize) {
+    d[IN_BLOCK] = 1;
+    d[BLOCK_FROM] = to;
+    d[BLOCK_BYTES] = 0;
 }
 
 // A command of the block: its bytes are counted.
-fn pass_order(name: &[u8], line: &[u8], d: Desk, o: Order) -> Desk {
-    let c = command_of(o, line);
-    if !c.fine {
-        return bad_bytes(name, d);
+pub fn pass_order(name: &[u8], line: &[u8], form: u8, d: &mut [usize; STATE]) {
+    let bytes = command_of(form, line);
+    let n = bytes[COUNT];
+    if n == UNREAD {
+        bad_bytes(name, d);
+        return;
     }
-    let mut x = d;
-    x.block_bytes = plus(d.block_bytes, c.n);
-    x
+    d[BLOCK_BYTES] = plus(d[BLOCK_BYTES], n as usize);
 }
 
-// The customer's call on the commands of a stretch of the text, its record and tally kept.
-fn hand_in(lines: &[u8], d: Desk, sheet: &[u8], answer: &mut [u8]) -> Desk {
-    let mut room = byte_room();
+fn outcome(
+    d: &mut [usize; STATE],
+    o: BlockOutcome,
+    words: &[u8; MOST],
+    values: &[u16; MOST],
+    answer: &mut [u8],
+) -> Record {
+    let a = o.answer;
+    let refusal = block_refusal(a);
+    let n = put_handed(answer, refusal, o.count, words, values);
+    opened(d, n);
+    d[IN_BLOCK] = 0;
+    d[REFUSAL] = refusal as usize;
+    o.session
+}
+
+fn counted(
+    d: &mut [usize; STATE],
+    done: BlockCounted,
+    words: &[u8; MOST],
+    values: &[u16; MOST],
+    answer: &mut [u8],
+) -> Record {
+    let counts = done.tally;
+    keep_tally(d, counts);
+    let o = done.outcome;
+    outcome(d, o, words, values, answer)
+}
+
+// The customer's call on a block's bytes; the record after it.
+fn run_block(
+    d: &mut [usize; STATE],
+    r: Record,
+    block: &[u8],
+    sheet: &[u8],
+    answer: &mut [u8],
+) -> Record {
     let mut words = word_room();
     let mut values = value_room();
-    let n = put_orders(lines, &mut room, 0);
-    let r = d.record;
-    let t = d.tally;
     let done = block_with(
         r,
-        front(sheet, d.length),
-        front(&room, n),
-        t,
+        front(sheet, d[LENGTH]),
+        block,
+        tally_of(d),
         &mut words,
         &mut values,
     );
-    let o = done.outcome;
-    let a = o.answer;
-    let after = o.session;
-    let counts = done.tally;
-    let refusal = block_refusal(a);
-    let end = put_handed(answer, refusal, o.count, &words, &values);
-    let mut x = opened(d, end);
-    x.in_block = false;
-    x.record = after;
-    x.tally = counts;
-    x.asked = true;
-    x.refusal = refusal;
-    x
+    counted(d, done, &words, &values, answer)
 }
 
-// A line in a block, which begins at a position of the text. A line that is none of a block is left out of it.
-pub fn block_line(
-    name: &[u8],
-    text: &[u8],
-    at: usize,
-    to: usize,
-    d: Desk,
-    form: Form,
+// `hand in`: the commands of a stretch of the text.
+pub fn hand_in(
+    lines: &[u8],
+    d: &mut [usize; STATE],
+    r: Record,
     sheet: &[u8],
     answer: &mut [u8],
-) -> Desk {
-    match form {
-        Form::Blank => d,
-        Form::Command(o) => pass_order(name, between(text, at, to), d, o),
-        Form::HandIn => hand_in(between(text, d.block_from, at), d, sheet, answer),
-        _ => mistake(
-            name,
-            d,
-            b"`fire K`, `undo last`, `undo S`, `hex BYTES` or `hand in`",
-        ),
-    }
+) -> Record {
+    let mut room = byte_room();
+    let n = put_orders(lines, &mut room, 0);
+    run_block(d, r, front(&room, n), sheet, answer)
 }
 
 // A block that is not handed in: a mistake, and its commands are given up.
-pub fn give_up(name: &[u8], d: Desk) -> Desk {
-    if !d.in_block {
-        return d;
-    }
-    let mut x = mistake(name, d, b"`hand in` behind the block's commands");
-    x.in_block = false;
-    x
-}
-
-// The desk at its next line. `sheet` and `session` end a block.
-pub fn at_line(name: &[u8], before: Desk, form: Form) -> Desk {
-    let mut d = before;
-    d.line = one_more(before.line);
-    match form {
-        Form::Sheet => give_up(name, d),
-        Form::Session => give_up(name, d),
-        _ => d,
+pub fn give_up(name: &[u8], d: &mut [usize; STATE]) {
+    if d[IN_BLOCK] != 0 {
+        mistake(name, d, b"`hand in` behind the block's commands");
+        d[IN_BLOCK] = 0;
     }
 }

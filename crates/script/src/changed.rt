@@ -4,7 +4,7 @@ ghost use Prim.Native.Nat.{_<_};
 ghost use lib.ListN.{length};
 ghost use mathlib.Core.Path.{_≡_};
 use crate::form::number;
-use session_start::start;
+use crate::questions::refusal_of;
 use wording::answer::put_start;
 use wording::part::front;
 
@@ -45,9 +45,7 @@ fn change(line: &[u8], room: &mut [u8], mine: bool, at: usize, value: usize) {
 
 // How starting on a sheet is answered.
 fn put_started(sheet: &[u8], answer: &mut [u8]) -> usize {
-    let s = start(sheet);
-    let a = s.answer;
-    put_start(answer, a, sheet.len())
+    put_start(answer, refusal_of(sheet), sheet.len())
 }
 
 // The same of the first n bytes of a room.

@@ -2,11 +2,14 @@
 // the commands, three bytes each (document 01, the exam program). Of a script, its first sheet and that sheet's first session.
 ghost use Prim.Native.Nat.{_≤_};
 ghost use lib.ListN.{length};
+use crate::command::COUNT;
+use crate::command::UNREAD;
 use crate::command::command_of;
-use crate::form::Form;
+use crate::form;
 use crate::form::form_of;
+use crate::form::is_command;
 use crate::sheets::Given;
-use crate::sheets::Slip;
+use crate::sheets::NO_SHEET;
 use crate::sheets::line_end;
 use crate::sheets::mistaken;
 use crate::sheets::one_more;
@@ -54,11 +57,14 @@ fn nowhere() -> Place {
 }
 
 // What a line begins: a sheet, a session, or nothing.
-fn begun_by(form: Form) -> u8 {
-    match form {
-        Form::Sheet => SHEET,
-        Form::Session => SESSION,
-        _ => BEFORE,
+fn begun_by(form: u8) -> u8 {
+    if form == form::SHEET {
+        return SHEET;
+    }
+    if form == form::SESSION {
+        SESSION
+    } else {
+        BEFORE
     }
 }
 
@@ -122,21 +128,18 @@ fn place_of(text: &[u8]) -> Place {
     p
 }
 
-// A command's bytes behind what is there; nothing of any other line.
+// A command's bytes behind what is there; nothing of any other line, or of one that cannot be read.
 fn put_order(line: &[u8], out: &mut [u8], n: usize) -> usize {
     let form = form_of(line);
-    match form {
-        Form::Command(o) => {
-            let c = command_of(o, line);
-            let bytes = [c.a, c.b, c.c, c.d];
-            if c.fine {
-                put_text(out, n, front(&bytes, c.n))
-            } else {
-                n
-            }
-        }
-        _ => n,
+    if !is_command(form) {
+        return n;
     }
+    let bytes = command_of(form, line);
+    let length = bytes[COUNT];
+    if length == UNREAD {
+        return n;
+    }
+    put_text(out, n, front(&bytes, length as usize))
 }
 
 // The commands of all lines.
@@ -168,12 +171,11 @@ pub fn put_input(text: &[u8], sheet: &mut [u8], out: &mut [u8]) -> Given
 {
     let p = place_of(text);
     if p.line == 0 {
-        return mistaken(Slip::NoSheet, 0);
+        return mistaken(NO_SHEET, 0);
     }
     let g = sheet_in(between(text, p.from, p.to), sheet);
     if !g.fine {
-        let slip = g.slip;
-        return mistaken(slip, plus(p.line, g.line));
+        return mistaken(g.slip, plus(p.line, g.line));
     }
     let a = put_sheet(out, front(sheet, g.n));
     let b = put_orders(between(text, p.begin, p.end), out, a);

@@ -27,8 +27,7 @@ pub fn make(name: &[u8], text: &[u8], sheet: &mut [u8]) -> bool
     let mut out = input_room();
     let g = put_input(text, sheet, &mut out);
     if !g.fine {
-        let slip = g.slip;
-        return print_slip(2, name, g.line, slip);
+        return print_slip(2, name, g.line, g.slip);
     }
     write_all(1, front(&out, g.n))
 }

@@ -1,49 +1,65 @@
 // The lines of a script by their forms. A form is the line with its greatest numbers (crate forms).
 // A line that has none of these is one of a sheet, or a mistake.
+use crate::sheets::line_end;
 use forms::has_form;
 use forms::nth_number;
+use wording::part::between;
 
-// A command.
-pub enum Order {
-    Fire(u16),
-    UndoLast,
-    Undo(u16),
-    Bytes,
-}
+// The forms, by their place in the list below: a blank line, the beginnings of a sheet and a session, a block's ends,
+pub const BLANK: u8 = 0;
 
-// A question: about the record, about the last refusal, about the sheet with some bytes changed or cut short, for a page of
-// the live firings or a row of it, about what can come off, how far a firing spreads, and for the listing of the steps.
-pub enum Question {
-    Where,
-    Couplings,
-    Live,
-    Moved(u16),
-    StepOf(u16),
-    Tally,
-    Why,
-    With(u8),
-    Cut(u8),
-    Page(u16),
-    Row(u16, u16),
-    Lamp(u16),
-    Lamps,
-    Movers,
-    Spread(u16),
-    Listing,
-}
+pub const SHEET: u8 = 1;
 
-pub enum Form {
-    Blank,
-    Sheet,
-    Session,
-    Expect,
-    Block,
-    HandIn,
-    WayBack,
-    Command(Order),
-    Asks(Question),
-    Other,
-}
+pub const SESSION: u8 = 2;
+
+pub const BLOCK: u8 = 3;
+
+pub const HAND_IN: u8 = 4;
+
+// commands of kinds 1, 2 and 3,
+const FIRE: u8 = 5;
+
+pub const UNDO: u8 = 7;
+
+// questions: about the sheet with one to four bytes changed, or cut short, from 8 on; about the tally and the last refusal,
+pub const CUT: u8 = 12;
+
+pub const TALLY: u8 = 14;
+
+pub const WHY: u8 = 15;
+
+// about the record,
+pub const WHERE: u8 = 16;
+
+pub const COUPLINGS: u8 = 17;
+
+pub const LIVE: u8 = 18;
+
+pub const MOVED: u8 = 19;
+
+pub const MOVERS: u8 = 21;
+
+// and by the customer's calls on it: what can come off, how far a firing spreads, the listing, a page and a row of it.
+pub const LAMP: u8 = 22;
+
+pub const LAMPS: u8 = 23;
+
+pub const SPREAD: u8 = 24;
+
+pub const LISTING: u8 = 25;
+
+pub const PAGE: u8 = 26;
+
+const FORMS: usize = 28;
+
+// Lines of which the beginning alone is a form, and all others.
+pub const EXPECT: u8 = 28;
+
+pub const HEX: u8 = 29;
+
+pub const WAY_BACK: u8 = 30;
+
+pub const OTHER: u8 = 31;
 
 // No line of a script has more items than this, those of `expect` and `hex` aside.
 const ITEMS: usize = 12;
@@ -53,132 +69,81 @@ pub fn number(line: &[u8], k: usize) -> u16 {
     (nth_number(line, 0, k, ITEMS) % 65536) as u16
 }
 
-fn is(line: &[u8], form: &[u8]) -> bool {
-    has_form(line, 0, form, ITEMS)
+// Which of the forms in a list a line has, from 0; how many there are where it has none. A line is a form.
+fn place_in(line: &[u8], list: &[u8]) -> usize {
+    let mut k = 0;
+    let mut at = 0;
+    while at < list.len() {
+        let to = line_end(list, at);
+        if has_form(line, 0, between(list, at, to), ITEMS) {
+            return k;
+        }
+        if list.len() <= to {
+            return FORMS;
+        }
+        at = to + 1;
+        k = k % 64 + 1;
+    }
+    FORMS
 }
 
-fn begins(line: &[u8], word: &[u8]) -> bool {
-    has_form(line, 0, word, 1)
+fn whole_form(line: &[u8]) -> usize {
+    place_in(
+        line,
+        b"\n\
+          sheet\n\
+          session\n\
+          block\n\
+          hand in\n\
+          fire 65535\n\
+          undo last\n\
+          undo 65535\n\
+          with 65535 255\n\
+          with 65535 255 65535 255\n\
+          with 65535 255 65535 255 65535 255\n\
+          with 65535 255 65535 255 65535 255 65535 255\n\
+          cut 65535\n\
+          cut 65535 65535 255\n\
+          tally\n\
+          why\n\
+          where\n\
+          couplings\n\
+          live\n\
+          moved 65535\n\
+          step of 65535\n\
+          movers\n\
+          lamp 65535\n\
+          lamps\n\
+          spread 65535\n\
+          listing\n\
+          page 65535\n\
+          row 65535 51",
+    )
 }
 
-// Questions about the sheet with some bytes changed: how many.
-fn changed_form(line: &[u8]) -> Form {
-    if is(line, b"with 65535 255") {
-        return Form::Asks(Question::With(1));
+fn beginning(line: &[u8]) -> u8 {
+    if has_form(line, 0, b"expect", 1) {
+        return EXPECT;
     }
-    if is(line, b"with 65535 255 65535 255") {
-        return Form::Asks(Question::With(2));
-    }
-    if is(line, b"with 65535 255 65535 255 65535 255") {
-        return Form::Asks(Question::With(3));
-    }
-    if is(line, b"with 65535 255 65535 255 65535 255 65535 255") {
-        return Form::Asks(Question::With(4));
-    }
-    if is(line, b"cut 65535") {
-        return Form::Asks(Question::Cut(0));
-    }
-    if is(line, b"cut 65535 65535 255") {
-        return Form::Asks(Question::Cut(1));
-    }
-    Form::Other
-}
-
-// Pages of the live firings, and `way back` with whatever is behind it.
-fn page_form(line: &[u8]) -> Form {
-    if is(line, b"page 65535") {
-        return Form::Asks(Question::Page(number(line, 0)));
-    }
-    if is(line, b"row 65535 51") {
-        return Form::Asks(Question::Row(number(line, 0), number(line, 1)));
+    if has_form(line, 0, b"hex", 1) {
+        return HEX;
     }
     if has_form(line, 0, b"way back", 2) {
-        return Form::WayBack;
+        WAY_BACK
+    } else {
+        OTHER
     }
-    changed_form(line)
 }
 
-// What can come off, which firing moved each part last, how far a firing spreads, and the listing.
-fn lamp_form(line: &[u8]) -> Form {
-    if is(line, b"lamp 65535") {
-        return Form::Asks(Question::Lamp(number(line, 0)));
+pub fn form_of(line: &[u8]) -> u8 {
+    let k = whole_form(line);
+    if k < FORMS {
+        return (k % 256) as u8;
     }
-    if is(line, b"lamps") {
-        return Form::Asks(Question::Lamps);
-    }
-    if is(line, b"movers") {
-        return Form::Asks(Question::Movers);
-    }
-    if is(line, b"spread 65535") {
-        return Form::Asks(Question::Spread(number(line, 0)));
-    }
-    if is(line, b"listing") {
-        return Form::Asks(Question::Listing);
-    }
-    page_form(line)
+    beginning(line)
 }
 
-// Questions about the record.
-fn question_form(line: &[u8]) -> Form {
-    if is(line, b"where") {
-        return Form::Asks(Question::Where);
-    }
-    if is(line, b"couplings") {
-        return Form::Asks(Question::Couplings);
-    }
-    if is(line, b"live") {
-        return Form::Asks(Question::Live);
-    }
-    if is(line, b"moved 65535") {
-        return Form::Asks(Question::Moved(number(line, 0)));
-    }
-    if is(line, b"step of 65535") {
-        return Form::Asks(Question::StepOf(number(line, 0)));
-    }
-    if is(line, b"tally") {
-        return Form::Asks(Question::Tally);
-    }
-    if is(line, b"why") {
-        return Form::Asks(Question::Why);
-    }
-    lamp_form(line)
-}
-
-// Commands.
-fn command_form(line: &[u8]) -> Form {
-    if is(line, b"fire 65535") {
-        return Form::Command(Order::Fire(number(line, 0)));
-    }
-    if is(line, b"undo last") {
-        return Form::Command(Order::UndoLast);
-    }
-    if is(line, b"undo 65535") {
-        return Form::Command(Order::Undo(number(line, 0)));
-    }
-    if begins(line, b"hex") {
-        return Form::Command(Order::Bytes);
-    }
-    question_form(line)
-}
-
-pub fn form_of(line: &[u8]) -> Form {
-    if is(line, b"") {
-        return Form::Blank;
-    }
-    if begins(line, b"expect") {
-        return Form::Expect;
-    }
-    if is(line, b"sheet") {
-        return Form::Sheet;
-    }
-    if is(line, b"session") {
-        return Form::Session;
-    }
-    if is(line, b"block") {
-        return Form::Block;
-    }
-    if is(line, b"hand in") {
-        return Form::HandIn;
-    }
-    command_form(line)
+// Whether a form is a command's.
+pub fn is_command(form: u8) -> bool {
+    (form == HEX) | (FIRE <= form) & (form <= UNDO)
 }

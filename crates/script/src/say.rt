@@ -1,8 +1,8 @@
 // What the desk prints: a line each, with the file's name and the line of the script in front.
 // Each answers whether it was written.
-use crate::sheets::Slip;
 use io::print_decimal;
 use io::write_all;
+use wording::part::nth_line;
 
 // A line of up to four pieces, behind the file's name and the line of the script.
 fn print_line(fd: i32, name: &[u8], line: usize, a: &[u8], b: &[u8], c: &[u8], d: &[u8]) -> bool {
@@ -51,54 +51,21 @@ pub fn print_mistake(fd: i32, name: &[u8], line: usize, words: &[u8]) -> bool {
     )
 }
 
-// The same for a sheet's line.
-pub fn print_slip(fd: i32, name: &[u8], line: usize, slip: Slip) -> bool {
-    match slip {
-        Slip::SheetLine => {
-            print_mistake(
-                fd,
-                name,
-                line,
-                b"`places N`, `part P at PLACE`, `coupled P-Q`, `step K`, `move P from PLACE to PLACE`, `before P-Q` or `after P-Q`, numbers to 255",
-            )
-        }
-        Slip::PlacesOnce => {
-            print_mistake(fd, name, line, b"`places` once, before the first `step`")
-        }
-        Slip::PartInTurn => {
-            print_mistake(
-                fd,
-                name,
-                line,
-                b"the parts in their turn, from 0, before the first `step`",
-            )
-        }
-        Slip::CoupledFirst => {
-            print_mistake(
-                fd,
-                name,
-                line,
-                b"`coupled` before the first `step`: `after` says what a step couples",
-            )
-        }
-        Slip::StepInTurn => print_mistake(fd, name, line, b"the steps in their turn, from 0"),
-        Slip::BehindStep => print_mistake(fd, name, line, b"a `step` before this line"),
-        Slip::NoSheet => print_mistake(fd, name, line, b"`sheet` and its lines"),
-        Slip::HexLine => print_mistake(
-            fd,
-            name,
-            line,
-            b"`hex` and two digits 0 to 9, a to f, for each byte",
-        ),
-        Slip::Smaller => {
-            print_mistake(
-                fd,
-                name,
-                line,
-                b"a sheet that the format can hold: up to 255 parts, steps, and lines of a kind in a step, 65535 bytes",
-            )
-        }
-    }
+// The same for a sheet's line, by its line in this list (sheets).
+pub fn print_slip(fd: i32, name: &[u8], line: usize, slip: u8) -> bool {
+    let words = nth_line(
+        b"`places N`, `part P at PLACE`, `coupled P-Q`, `step K`, `move P from PLACE to PLACE`, `before P-Q` or `after P-Q`, numbers to 255\n\
+          `places` once, before the first `step`\n\
+          the parts in their turn, from 0, before the first `step`\n\
+          `coupled` before the first `step`: `after` says what a step couples\n\
+          the steps in their turn, from 0\n\
+          a `step` before this line\n\
+          `hex` and two digits 0 to 9, a to f, for each byte\n\
+          a sheet that the format can hold: up to 255 parts, steps, and lines of a kind in a step, 65535 bytes\n\
+          `sheet` and its lines",
+        slip as usize,
+    );
+    print_mistake(fd, name, line, words)
 }
 
 fn print_count(word: &[u8], n: usize) -> bool {

@@ -2,8 +2,8 @@
 // A mistake is a line, counted from 1 in the stretch, and what was expected there.
 ghost use Prim.Native.Nat.{_≤_};
 ghost use lib.ListN.{length};
-use crate::form::Form;
-use crate::form::Order;
+use crate::form::BLANK;
+use crate::form::HEX;
 use crate::form::form_of;
 use crate::hex::Taken;
 use crate::hex::put_hex;
@@ -14,23 +14,29 @@ use sheet_draft::Made;
 use sheet_draft::read_sheet;
 use sheet_text::Line;
 
-// What was expected.
-pub enum Slip {
-    SheetLine,
-    PlacesOnce,
-    PartInTurn,
-    CoupledFirst,
-    StepInTurn,
-    BehindStep,
-    HexLine,
-    Smaller,
-    NoSheet,
-}
+// What was expected, by its line in the list of `print_slip`.
+pub const SHEET_LINE: u8 = 0;
+
+const PLACES_ONCE: u8 = 1;
+
+const PART_IN_TURN: u8 = 2;
+
+const COUPLED_FIRST: u8 = 3;
+
+const STEP_IN_TURN: u8 = 4;
+
+const BEHIND_STEP: u8 = 5;
+
+const HEX_LINE: u8 = 6;
+
+const SMALLER: u8 = 7;
+
+pub const NO_SHEET: u8 = 8;
 
 // A sheet of n bytes in the buffer; or what was expected, and at which line: 0 where it is about the whole.
 pub struct Given {
     pub fine: bool,
-    pub slip: Slip,
+    pub slip: u8,
     pub line: usize,
     pub n: usize,
 }
@@ -38,13 +44,13 @@ pub struct Given {
 pub fn sheet_of(n: usize) -> Given {
     Given {
         fine: true,
-        slip: Slip::SheetLine,
+        slip: SHEET_LINE,
         line: 0,
         n: n,
     }
 }
 
-pub fn mistaken(slip: Slip, line: usize) -> Given {
+pub fn mistaken(slip: u8, line: usize) -> Given {
     Given {
         fine: false,
         slip: slip,
@@ -72,17 +78,17 @@ pub fn plus(a: usize, b: usize) -> usize {
 }
 
 // What a line of a sheet lacks where it stands.
-fn slip_of(l: Line) -> Slip {
+fn slip_of(l: Line) -> u8 {
     match l {
-        Line::Blank => Slip::SheetLine,
-        Line::Places(n) => Slip::PlacesOnce,
-        Line::Part(p, x) => Slip::PartInTurn,
-        Line::Coupled(p, q) => Slip::CoupledFirst,
-        Line::Step(k) => Slip::StepInTurn,
-        Line::Move(p, i, o) => Slip::BehindStep,
-        Line::Before(p, q) => Slip::BehindStep,
-        Line::After(p, q) => Slip::BehindStep,
-        Line::Wrong => Slip::SheetLine,
+        Line::Blank => SHEET_LINE,
+        Line::Places(n) => PLACES_ONCE,
+        Line::Part(p, x) => PART_IN_TURN,
+        Line::Coupled(p, q) => COUPLED_FIRST,
+        Line::Step(k) => STEP_IN_TURN,
+        Line::Move(p, i, o) => BEHIND_STEP,
+        Line::Before(p, q) => BEHIND_STEP,
+        Line::After(p, q) => BEHIND_STEP,
+        Line::Wrong => SHEET_LINE,
     }
 }
 
@@ -94,28 +100,7 @@ fn worded(text: &[u8], buf: &mut [u8]) -> Given
     match made {
         Made::Sheet(n) => sheet_of(n),
         Made::Mistake(k, l) => mistaken(slip_of(l), k),
-        Made::TooLarge => mistaken(Slip::Smaller, 0),
-    }
-}
-
-// Whether a line begins with the word `hex`; a blank one tells nothing.
-enum Hint {
-    Nothing,
-    Hex,
-    Words,
-}
-
-fn tells(line: &[u8]) -> Hint {
-    let form = form_of(line);
-    match form {
-        Form::Blank => Hint::Nothing,
-        Form::Command(o) => {
-            match o {
-                Order::Bytes => Hint::Hex,
-                _ => Hint::Words,
-            }
-        }
-        _ => Hint::Words,
+        Made::TooLarge => mistaken(SMALLER, 0),
     }
 }
 
@@ -124,15 +109,9 @@ fn is_hex(text: &[u8]) -> bool {
     let mut at = 0;
     while at < text.len() {
         let to = line_end(text, at);
-        let told = tells(&text[at..to]);
-        match told {
-            Hint::Hex => {
-                return true;
-            }
-            Hint::Words => {
-                return false;
-            }
-            Hint::Nothing => {}
+        let form = form_of(&text[at..to]);
+        if form != BLANK {
+            return form == HEX;
         }
         if text.len() <= to {
             return false;
@@ -150,11 +129,13 @@ pub fn hex_line(line: &[u8], buf: &mut [u8], n: usize) -> Taken {
 
 // A line of a sheet's bytes: `hex` and bytes, or blank.
 fn bytes_line(line: &[u8], buf: &mut [u8], n: usize) -> Taken {
-    let told = tells(line);
-    match told {
-        Hint::Nothing => Taken { fine: true, n: n },
-        Hint::Hex => hex_line(line, buf, n),
-        Hint::Words => Taken { fine: false, n: n },
+    let form = form_of(line);
+    if form == HEX {
+        return hex_line(line, buf, n);
+    }
+    Taken {
+        fine: form == BLANK,
+        n: n,
     }
 }
 
@@ -167,7 +148,7 @@ fn spelled(text: &[u8], buf: &mut [u8]) -> Given {
         let to = line_end(text, at);
         let t = bytes_line(&text[at..to], buf, n);
         if !t.fine {
-            return mistaken(Slip::HexLine, k);
+            return mistaken(HEX_LINE, k);
         }
         n = t.n;
         if text.len() <= to {
@@ -188,7 +169,7 @@ pub fn sheet_in(text: &[u8], buf: &mut [u8]) -> Given
     }
     let g = spelled(text, buf);
     if 65536 <= g.n {
-        return mistaken(Slip::Smaller, 0);
+        return mistaken(SMALLER, 0);
     }
     g
 }

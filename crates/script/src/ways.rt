@@ -2,7 +2,8 @@
 // place in the words of a sheet; what it does not name may be anywhere. The set is the customer's call.
 use crate::same::item_at;
 use crate::sheets::one_more;
-use crate::state::Desk;
+use crate::state::LENGTH;
+use crate::state::STATE;
 use crate::state::mistake;
 use crate::state::opened;
 use format::base_count;
@@ -11,16 +12,19 @@ use format::place_count;
 use forms::has_form;
 use forms::nth_number;
 use net::MAX_LIVE;
+use session::Record;
 use way_back::WayAnswer;
 use way_back::WayBack;
 use why::Reason;
 use wording::answer::put_if;
 use wording::part::behind;
 use wording::part::front;
+use wording::put::Said;
 use wording::put::put;
-use wording::put::put_count;
-use wording::put::put_phrase;
+use wording::put::put_refusal;
+use wording::put::put_said;
 use wording::put::put_text;
+use wording::put::say;
 use wording::reason::put_reason;
 use wording::refused::put_refused;
 
@@ -137,39 +141,39 @@ fn first_nowhere(layout: &[u8], places: u8) -> usize {
 }
 
 // Why a layout is refused by 27.
-fn put_unfit(buf: &mut [u8], sheet: &[u8], layout: &[u8]) -> usize {
+fn say_unfit(sheet: &[u8], layout: &[u8]) -> Said {
     let parts = base_count(sheet) as usize;
     let n = layout.len();
     if parts < n {
-        return put_phrase(
-            buf,
-            b"part # is named and the parts are #",
-            n - 1,
-            parts,
-            0,
-            0,
-        );
+        return say(0, n - 1, parts, 0, 0);
     }
     let places = place_count(sheet);
     let p = first_nowhere(layout, places);
-    put_phrase(
-        buf,
-        b"part # is wanted at # and the places are #",
-        p,
-        byte_at(layout, p) as usize,
-        places as usize,
-        0,
-    )
+    say(1, p, byte_at(layout, p) as usize, places as usize, 0)
+}
+
+fn say_no_way(sheet: &[u8], layout: &[u8], number: u8) -> Said {
+    if number == 27 {
+        return say_unfit(sheet, layout);
+    }
+    say(2, 0, 0, 0, 0)
 }
 
 // Why the call was refused by a number.
 fn put_no_way(buf: &mut [u8], sheet: &[u8], layout: &[u8], number: u8) -> usize {
-    match number {
-        10 => put_reason(buf, Reason::Record),
-        27 => put_unfit(buf, sheet, layout),
-        28 => put_text(buf, 0, b"whatever is taken back some part is elsewhere"),
-        _ => put_refused(buf, sheet, number),
+    if number == 10 {
+        return put_reason(buf, Reason::Record);
     }
+    if number < 27 {
+        return put_refused(buf, sheet, number);
+    }
+    put_said(
+        buf,
+        b"part # is named and the parts are #\n\
+          part # is wanted at # and the places are #\n\
+          whatever is taken back some part is elsewhere",
+        say_no_way(sheet, layout, number),
+    )
 }
 
 // The number that the call was refused by; 0 where it was not.
@@ -180,39 +184,54 @@ fn way_refusal(a: WayAnswer) -> u8 {
     }
 }
 
-// The set, or `refused N` and why.
+// `refused N` and why.
+fn put_refused_way(buf: &mut [u8], sheet: &[u8], layout: &[u8], refusal: u8) -> usize {
+    let mut words = [0u8; ROOM];
+    let n = put_no_way(&mut words, sheet, layout, refusal);
+    let a = put_refusal(buf, refusal);
+    let b = put(buf, a, b' ');
+    put_text(buf, b, front(&words, n))
+}
+
+// The set, or why there is none.
 fn put_way(buf: &mut [u8], sheet: &[u8], layout: &[u8], w: WayBack) -> usize {
     let answer = w.answer;
     let refusal = way_refusal(answer);
     if refusal == 0 {
         return put_found(buf, w);
     }
-    let mut words = [0u8; ROOM];
-    let n = put_no_way(&mut words, sheet, layout, refusal);
-    let a = put_count(buf, 0, b"refused", refusal as usize);
-    let b = put(buf, a, b' ');
-    put_text(buf, b, front(&words, n))
+    put_refused_way(buf, sheet, layout, refusal)
+}
+
+// The customer's call on a layout.
+fn put_wanted(buf: &mut [u8], r: Record, sheet: &[u8], layout: &[u8]) -> usize {
+    put_way(buf, sheet, layout, r.way_back(sheet, layout))
 }
 
 // ---- the line
 
 // `way back` and the named parts. The record and the tally stay as they are.
-pub fn way_line(name: &[u8], line: &[u8], d: Desk, sheet: &[u8], answer: &mut [u8]) -> Desk {
+pub fn way_line(
+    name: &[u8],
+    line: &[u8],
+    d: &mut [usize; STATE],
+    r: Record,
+    sheet: &[u8],
+    answer: &mut [u8],
+) {
     let mut layout = [ANY; ROOM];
     let mut named = [0u8; ROOM];
-    let s = front(sheet, d.length);
-    let parts = base_count(s) as usize;
+    let s = front(sheet, d[LENGTH]);
     let from = past_one(line, past_one(line, 0));
-    let l = read_layout(line, from, &mut layout, &mut named, parts);
+    let l = read_layout(line, from, &mut layout, &mut named, base_count(s) as usize);
     if !l.fine {
-        return mistake(
+        mistake(
             name,
             d,
             b"`way back` and `part P at X` for each part that is wanted somewhere, none of them twice, numbers to 255",
         );
+        return;
     }
-    let r = d.record;
-    let w = r.way_back(s, front(&layout, l.n));
-    let n = put_way(answer, s, front(&layout, l.n), w);
-    opened(d, n)
+    let n = put_wanted(answer, r, s, front(&layout, l.n));
+    opened(d, n);
 }

@@ -1,47 +1,34 @@
 // Answers to commands and to questions about the record: a line each, without its newline, from the buffer's start.
 // A writer answers where its text ends. Words are of small letters, so that any answer can be expected.
 ghost use Prim.Native.Nat.{_<_};
+use crate::part::nth_line;
 use crate::put::put_count;
 use crate::put::put_coupling;
 use crate::put::put_item;
+use crate::put::put_refusal;
+use crate::put::put_said;
 use crate::put::put_text;
-use commands::Answer;
+use crate::put::say;
 use firings::Firings;
 use marking::Marking;
 use net::MAX_BASES;
 use net::MAX_BONDS;
 use net::MAX_LIVE;
-use session::Outcome;
-use session::Record;
-use session::StartAnswer;
 use tally::Tally;
 use words::has_base;
 
-// `fired S`, `undone S` or `refused N`.
-pub fn put_answer(buf: &mut [u8], o: Outcome) -> usize {
-    let a = o.answer;
-    match a {
-        Answer::Fired => put_count(buf, 0, b"fired", o.key.0 as usize),
-        Answer::Undone => put_count(buf, 0, b"undone", o.key.0 as usize),
-        Answer::Refused(n) => put_count(buf, 0, b"refused", n as usize),
-    }
+// `fired S`, `undone S` or `refused N`, of an answer's word and value.
+pub fn put_heard(buf: &mut [u8], at: usize, word: u8, value: u16) -> usize {
+    let said = nth_line(b"fired\nundone\nrefused", word as usize);
+    put_count(buf, at, said, value as usize)
 }
 
-// The number that a command was refused by; 0 where it was not.
-pub fn refusal_of(a: Answer) -> u8 {
-    match a {
-        Answer::Fired => 0,
-        Answer::Undone => 0,
-        Answer::Refused(n) => n,
+// `accepted` and the sheet's length, or `refused N`; 0 where it is not refused.
+pub fn put_start(buf: &mut [u8], refusal: u8, length: usize) -> usize {
+    if refusal != 0 {
+        return put_refusal(buf, refusal);
     }
-}
-
-// `accepted` and the sheet's length, or `refused N`.
-pub fn put_start(buf: &mut [u8], a: StartAnswer, length: usize) -> usize {
-    match a {
-        StartAnswer::Started => put_count(buf, 0, b"accepted", length),
-        StartAnswer::NotStarted(n) => put_count(buf, 0, b"refused", n as usize),
-    }
+    put_count(buf, 0, b"accepted", length)
 }
 
 // A number where it is one of those that are asked for.
@@ -98,7 +85,7 @@ pub fn put_live(buf: &mut [u8], f: Firings) -> usize {
     pos
 }
 
-// A firing of a record by its serial: whether it is live, its step, and its moved parts.
+// A live firing by its serial: whether it is live, its step, and its moved parts.
 struct Found {
     live: bool,
     step: u8,
@@ -116,8 +103,7 @@ fn chosen(f: Found, mine: bool, step: u8, moved: u64) -> Found {
     }
 }
 
-fn find(r: Record, key: u16) -> Found {
-    let f = r.firings;
+fn find(f: Firings, key: u16) -> Found {
     let live = f.live;
     let keys = f.keys;
     let steps = f.transitions;
@@ -135,9 +121,8 @@ fn find(r: Record, key: u16) -> Found {
     x
 }
 
-pub fn put_not_live(buf: &mut [u8], key: u16) -> usize {
-    let a = put_count(buf, 0, b"firing", key as usize);
-    put_text(buf, a, b" is not live")
+fn put_not_live(buf: &mut [u8], key: u16) -> usize {
+    put_said(buf, b"firing # is not live", say(0, key as usize, 0, 0, 0))
 }
 
 // The parts of a set.
@@ -152,8 +137,8 @@ fn put_parts(buf: &mut [u8], at: usize, set: u64) -> usize {
 }
 
 // `moved` and the parts that a live firing moved.
-pub fn put_moved(buf: &mut [u8], r: Record, key: u16) -> usize {
-    let x = find(r, key);
+pub fn put_moved(buf: &mut [u8], f: Firings, key: u16) -> usize {
+    let x = find(f, key);
     if !x.live {
         return put_not_live(buf, key);
     }
@@ -162,8 +147,8 @@ pub fn put_moved(buf: &mut [u8], r: Record, key: u16) -> usize {
 }
 
 // `step` and the step of a live firing.
-pub fn put_step(buf: &mut [u8], r: Record, key: u16) -> usize {
-    let x = find(r, key);
+pub fn put_step(buf: &mut [u8], f: Firings, key: u16) -> usize {
+    let x = find(f, key);
     if !x.live {
         return put_not_live(buf, key);
     }

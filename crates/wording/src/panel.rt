@@ -1,23 +1,26 @@
 // Questions about what can come off (document 02, T-06): the lamp of a serial, the serials whose lamp is lit, each part's last mover; how far
 // one firing spreads (T-08); the listing of the steps (T-09). The lamps, the spread and the listing are the customer's calls.
 use crate::answer::put_if;
-use crate::put::put_count;
+use crate::part::nth_line;
+use crate::put::put_refusal;
 use crate::put::put_text;
+use firings::Firings;
+use lamps::Lamps;
 use lamps::LampsAnswer;
 use listing::Listing;
 use listing::ListingAnswer;
 use net::Key;
 use net::MAX_BASES;
 use net::MAX_LIVE;
+use net::Transition;
 use session::Record;
+use spread::Spread;
 use spread::SpreadAnswer;
 
 // `lamp yes` or `lamp no`.
 pub fn put_lamp(buf: &mut [u8], r: Record, sheet: &[u8], key: u16) -> usize {
-    if r.can_undo(sheet, Key(key)) {
-        return put_text(buf, 0, b"lamp yes");
-    }
-    put_text(buf, 0, b"lamp no")
+    let line = if r.can_undo(sheet, Key(key)) { 1 } else { 0 };
+    put_text(buf, 0, nth_line(b"lamp no\nlamp yes", line))
 }
 
 // `lamps` and the serials whose lamp is lit.
@@ -31,22 +34,24 @@ fn put_lit(buf: &mut [u8], keys: [u16; MAX_LIVE], lit: [bool; MAX_LIVE]) -> usiz
     pos
 }
 
-// The same of a record, or `refused N`.
-pub fn put_lamps(buf: &mut [u8], r: Record, sheet: &[u8]) -> usize {
-    let f = r.firings;
+fn put_shown(buf: &mut [u8], f: Firings, l: Lamps) -> usize {
     let keys = f.keys;
-    let shown = r.lamps(sheet);
-    let lit = shown.lit;
-    let a = shown.answer;
+    let lit = l.lit;
+    let a = l.answer;
     match a {
         LampsAnswer::Shown => put_lit(buf, keys, lit),
-        LampsAnswer::Refused(n) => put_count(buf, 0, b"refused", n as usize),
+        LampsAnswer::Refused(n) => put_refusal(buf, n),
     }
 }
 
+// The same of a record, or `refused N`.
+pub fn put_lamps(buf: &mut [u8], r: Record, sheet: &[u8]) -> usize {
+    let f = r.firings;
+    put_shown(buf, f, r.lamps(sheet))
+}
+
 // `movers` and for each of the first n parts the serial of the last live firing that moved it, 0 where none did.
-pub fn put_movers(buf: &mut [u8], r: Record, n: usize) -> usize {
-    let movers = r.movers;
+pub fn put_movers(buf: &mut [u8], movers: [u16; MAX_BASES], n: usize) -> usize {
     let mut pos = put_text(buf, 0, b"movers");
     let mut p = 0;
     while p < MAX_BASES {
@@ -67,21 +72,22 @@ fn put_reached(buf: &mut [u8], parts: [bool; MAX_BASES]) -> usize {
     pos
 }
 
-// The parts moved by the firing of a serial or by one that depends on it, or `refused N`.
-pub fn put_spread(buf: &mut [u8], r: Record, sheet: &[u8], key: u16) -> usize {
-    let told = r.spread(sheet, Key(key));
+fn put_told(buf: &mut [u8], told: Spread) -> usize {
     let parts = told.parts;
     let a = told.answer;
     match a {
         SpreadAnswer::Told => put_reached(buf, parts),
-        SpreadAnswer::Refused(n) => put_count(buf, 0, b"refused", n as usize),
+        SpreadAnswer::Refused(n) => put_refusal(buf, n),
     }
 }
 
-// `listing` and the step numbers, in the order of the call.
-fn put_listed(buf: &mut [u8], l: Listing) -> usize {
-    let count = l.count;
-    let steps = l.transitions;
+// The parts moved by the firing of a serial or by one that depends on it, or `refused N`.
+pub fn put_spread(buf: &mut [u8], r: Record, sheet: &[u8], key: u16) -> usize {
+    put_told(buf, r.spread(sheet, Key(key)))
+}
+
+// `listing` and the first step numbers, in the order of the call.
+fn put_steps(buf: &mut [u8], steps: [Transition; MAX_LIVE], count: usize) -> usize {
     let mut pos = put_text(buf, 0, b"listing");
     let mut i = 0;
     while i < MAX_LIVE {
@@ -92,12 +98,16 @@ fn put_listed(buf: &mut [u8], l: Listing) -> usize {
     pos
 }
 
-// The steps of the live firings in the order of the listing, or `refused N`.
-pub fn put_listing(buf: &mut [u8], r: Record, sheet: &[u8]) -> usize {
-    let l = r.listing(sheet);
+fn put_listed(buf: &mut [u8], l: Listing) -> usize {
+    let steps = l.transitions;
     let a = l.answer;
     match a {
-        ListingAnswer::Given => put_listed(buf, l),
-        ListingAnswer::Refused(n) => put_count(buf, 0, b"refused", n as usize),
+        ListingAnswer::Given => put_steps(buf, steps, l.count),
+        ListingAnswer::Refused(n) => put_refusal(buf, n),
     }
+}
+
+// The steps of the live firings in the order of the listing, or `refused N`.
+pub fn put_listing(buf: &mut [u8], r: Record, sheet: &[u8]) -> usize {
+    put_listed(buf, r.listing(sheet))
 }

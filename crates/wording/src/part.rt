@@ -36,3 +36,35 @@ fn text_end(line: &[u8]) -> usize {
 pub fn without_comment<'a>(line: &'a [u8]) -> &'a [u8] {
     front(line, text_end(line))
 }
+
+// Where line k of a text begins, from 0; the text's end where it has no such line.
+fn line_begin(text: &[u8], k: usize) -> usize {
+    let mut left = k;
+    let mut i = 0;
+    while i < text.len() {
+        if left == 0 {
+            return i;
+        }
+        left = if text[i] == b'\n' { left - 1 } else { left };
+        i += 1;
+    }
+    i
+}
+
+// Where a line ends that has a position.
+fn line_stop(text: &[u8], at: usize) -> usize {
+    let mut i = at;
+    while i < text.len() {
+        if text[i] == b'\n' {
+            return i;
+        }
+        i += 1;
+    }
+    i
+}
+
+// Line k of a text, without its newline.
+pub fn nth_line<'a>(text: &'a [u8], k: usize) -> &'a [u8] {
+    let from = line_begin(text, k);
+    between(text, from, line_stop(text, from))
+}

@@ -1,5 +1,6 @@
 // Text into a lent buffer from a position on; each writer answers where its text ends. Past the buffer's end nothing is
 // written, so no caller has to see to the room: the longest answer of the desk is shorter than its buffer.
+use crate::part::nth_line;
 use io::decimal;
 
 pub fn put(buf: &mut [u8], at: usize, c: u8) -> usize {
@@ -45,6 +46,13 @@ pub fn put_count(buf: &mut [u8], at: usize, word: &[u8], n: usize) -> usize {
     put_item(buf, a, n)
 }
 
+// `refused N`, from the buffer's start.
+pub fn put_refusal(buf: &mut [u8], n: u8) -> usize {
+    put_count(buf, 0, b"refused", n as usize)
+}
+
+// ---- phrases
+
 // A letter of a phrase; a number in place of `#`.
 fn put_letter(buf: &mut [u8], at: usize, c: u8, n: usize) -> usize {
     if c == b'#' {
@@ -54,7 +62,7 @@ fn put_letter(buf: &mut [u8], at: usize, c: u8, n: usize) -> usize {
 }
 
 // A phrase from the buffer's start, with numbers in place of `#`, in their order.
-pub fn put_phrase(buf: &mut [u8], words: &[u8], a: usize, b: usize, c: usize, d: usize) -> usize {
+fn put_phrase(buf: &mut [u8], words: &[u8], a: usize, b: usize, c: usize, d: usize) -> usize {
     let mut next = a;
     let mut second = b;
     let mut third = c;
@@ -71,4 +79,27 @@ pub fn put_phrase(buf: &mut [u8], words: &[u8], a: usize, b: usize, c: usize, d:
         i += 1;
     }
     pos
+}
+
+// What is said: a phrase by its line in a table of them, from 0, and its numbers.
+pub struct Said {
+    pub line: usize,
+    pub a: usize,
+    pub b: usize,
+    pub c: usize,
+    pub d: usize,
+}
+
+pub fn say(line: usize, a: usize, b: usize, c: usize, d: usize) -> Said {
+    Said {
+        line: line,
+        a: a,
+        b: b,
+        c: c,
+        d: d,
+    }
+}
+
+pub fn put_said(buf: &mut [u8], phrases: &[u8], s: Said) -> usize {
+    put_phrase(buf, nth_line(phrases, s.line), s.a, s.b, s.c, s.d)
 }

@@ -1,6 +1,8 @@
 // Why a sheet was refused, in words (document 01, the turned-away list, 1 to 9): the number's condition, and the pair, part,
 // coupling or step that it is about. Only what is printed: that a sheet is refused, and by which number, is the crate sheet's.
-use crate::put::put_phrase;
+use crate::put::Said;
+use crate::put::put_said;
+use crate::put::say;
 use format::arcs_width;
 use format::base_count;
 use format::byte_at;
@@ -50,39 +52,18 @@ fn first_seam(sheet: &[u8], n: u16, begin: usize) -> Seam {
     }
 }
 
-fn put_pairs(buf: &mut [u8], sheet: &[u8]) -> usize {
+fn say_pairs(sheet: &[u8]) -> Said {
     let n = transition_count(sheet) as u16 + 2;
     let begin = 4 + 4 * (n as usize);
     if sheet.len() < begin {
-        return put_phrase(
-            buf,
-            b"the pairs end at byte # and the sheet at #",
-            begin,
-            sheet.len(),
-            0,
-            0,
-        );
+        return say(3, begin, sheet.len(), 0, 0);
     }
     let s = first_seam(sheet, n, begin);
     let pair = s.pair as usize;
     if s.pair < n {
-        return put_phrase(
-            buf,
-            b"pair # has offset # and is to have #",
-            pair,
-            s.is,
-            s.to_be,
-            0,
-        );
+        return say(4, pair, s.is, s.to_be, 0);
     }
-    put_phrase(
-        buf,
-        b"the last of # pairs does not end at byte # but at #",
-        pair,
-        s.is,
-        s.to_be,
-        0,
-    )
+    say(5, pair, s.is, s.to_be, 0)
 }
 
 // The first part whose start place is not there; how many there are where none is.
@@ -97,29 +78,15 @@ fn first_misplaced(places: &[u8], n: u8) -> usize {
     p
 }
 
-fn put_start_places(buf: &mut [u8], sheet: &[u8]) -> usize {
+fn say_start_places(sheet: &[u8]) -> Said {
     let places = start_places(sheet);
     let parts = base_count(sheet) as usize;
     if places.len() != parts {
-        return put_phrase(
-            buf,
-            b"the start places are # and the parts #",
-            places.len(),
-            parts,
-            0,
-            0,
-        );
+        return say(6, places.len(), parts, 0, 0);
     }
     let n = place_count(sheet);
     let p = first_misplaced(places, n);
-    put_phrase(
-        buf,
-        b"part # starts at # and the places are #",
-        p,
-        byte_at(places, p) as usize,
-        n as usize,
-        0,
-    )
+    say(7, p, byte_at(places, p) as usize, n as usize, 0)
 }
 
 fn in_order(b: Bond, c: Bond) -> bool {
@@ -162,29 +129,15 @@ fn first_misfit(sheet: &[u8], n: u16) -> u16 {
     n
 }
 
-fn put_start_couplings(buf: &mut [u8], sheet: &[u8]) -> usize {
+fn say_start_couplings(sheet: &[u8]) -> Said {
     let bytes = start_bonds(sheet);
     if bytes.len() % 2 != 0 {
-        return put_phrase(
-            buf,
-            b"the start couplings have # bytes and that is odd",
-            bytes.len(),
-            0,
-            0,
-            0,
-        );
+        return say(8, bytes.len(), 0, 0, 0);
     }
     let n = start_bond_count(sheet);
     let i = first_misfit(sheet, n);
     let b = start_bond(sheet, i);
-    put_phrase(
-        buf,
-        b"start coupling # #-# breaks its rule",
-        i as usize,
-        b.lo as usize,
-        b.hi as usize,
-        0,
-    )
+    say(9, i as usize, b.lo as usize, b.hi as usize, 0)
 }
 
 // ---- a step
@@ -201,26 +154,12 @@ fn first_refused(sheet: &[u8], n: u8) -> u8 {
     n
 }
 
-fn put_width(buf: &mut [u8], k: usize, b: &[u8]) -> usize {
+fn say_width(k: usize, b: &[u8]) -> Said {
     let width = arcs_width(b);
     if b.len() != width {
-        return put_phrase(
-            buf,
-            b"step # has # bytes and its counts give #",
-            k,
-            b.len(),
-            width,
-            0,
-        );
+        return say(10, k, b.len(), width, 0);
     }
-    put_phrase(
-        buf,
-        b"step # has # entries and is to have 1 to 64",
-        k,
-        entry_count(b) as usize,
-        0,
-        0,
-    )
+    say(11, k, entry_count(b) as usize, 0, 0)
 }
 
 // An entry names what is there, and its part is above the one before.
@@ -252,42 +191,27 @@ fn first_stray(b: &[u8], n: u8, places: u8, parts: u8) -> u8 {
     n
 }
 
-fn put_entry(buf: &mut [u8], k: usize, b: &[u8], places: u8, parts: u8) -> usize {
+fn say_entry(k: usize, b: &[u8], places: u8, parts: u8) -> Said {
     let i = first_stray(b, entry_count(b), places, parts);
     let e = entry(b, i);
-    put_phrase(
-        buf,
-        b"step # moves part # from # to # and one of them is not there or the parts do not ascend",
-        k,
-        e.base as usize,
-        e.from as usize,
-        e.to as usize,
-    )
+    say(12, k, e.base as usize, e.from as usize, e.to as usize)
 }
 
-fn put_step(buf: &mut [u8], sheet: &[u8], number: u8) -> usize {
+fn say_step(sheet: &[u8], number: u8) -> Said {
     let k = first_refused(sheet, transition_count(sheet));
     let b = transition_bytes(sheet, Transition(k as u16));
     if number == 7 {
-        return put_width(buf, k as usize, b);
+        return say_width(k as usize, b);
     }
     if number == 8 {
-        return put_entry(buf, k as usize, b, place_count(sheet), base_count(sheet));
+        return say_entry(k as usize, b, place_count(sheet), base_count(sheet));
     }
-    put_phrase(
-        buf,
-        b"step # has a coupling that breaks its rule",
-        k as usize,
-        0,
-        0,
-        0,
-    )
+    say(13, k as usize, 0, 0, 0)
 }
 
-fn put_counts(buf: &mut [u8], sheet: &[u8]) -> usize {
-    put_phrase(
-        buf,
-        b"places # parts # steps # and each is to be 1 to 64",
+fn say_counts(sheet: &[u8]) -> Said {
+    say(
+        2,
         place_count(sheet) as usize,
         base_count(sheet) as usize,
         transition_count(sheet) as usize,
@@ -295,33 +219,37 @@ fn put_counts(buf: &mut [u8], sheet: &[u8]) -> usize {
     )
 }
 
-// Why a sheet is refused by a number.
-pub fn put_refused(buf: &mut [u8], sheet: &[u8], number: u8) -> usize {
+// Why a sheet is refused by a number: a line of the table below, and its numbers.
+fn say_refused(sheet: &[u8], number: u8) -> Said {
     match number {
-        1 => {
-            put_phrase(
-                buf,
-                b"the sheet has # bytes and is to have 4 to 32768",
-                sheet.len(),
-                0,
-                0,
-                0,
-            )
-        }
-        2 => {
-            put_phrase(
-                buf,
-                b"the version is # and is to be 1",
-                version(sheet) as usize,
-                0,
-                0,
-                0,
-            )
-        }
-        3 => put_counts(buf, sheet),
-        4 => put_pairs(buf, sheet),
-        5 => put_start_places(buf, sheet),
-        6 => put_start_couplings(buf, sheet),
-        _ => put_step(buf, sheet, number),
+        1 => say(0, sheet.len(), 0, 0, 0),
+        2 => say(1, version(sheet) as usize, 0, 0, 0),
+        3 => say_counts(sheet),
+        4 => say_pairs(sheet),
+        5 => say_start_places(sheet),
+        6 => say_start_couplings(sheet),
+        _ => say_step(sheet, number),
     }
+}
+
+// The same in words.
+pub fn put_refused(buf: &mut [u8], sheet: &[u8], number: u8) -> usize {
+    put_said(
+        buf,
+        b"the sheet has # bytes and is to have 4 to 32768\n\
+          the version is # and is to be 1\n\
+          places # parts # steps # and each is to be 1 to 64\n\
+          the pairs end at byte # and the sheet at #\n\
+          pair # has offset # and is to have #\n\
+          the last of # pairs does not end at byte # but at #\n\
+          the start places are # and the parts #\n\
+          part # starts at # and the places are #\n\
+          the start couplings have # bytes and that is odd\n\
+          start coupling # #-# breaks its rule\n\
+          step # has # bytes and its counts give #\n\
+          step # has # entries and is to have 1 to 64\n\
+          step # moves part # from # to # and one of them is not there or the parts do not ascend\n\
+          step # has a coupling that breaks its rule",
+        say_refused(sheet, number),
+    )
 }

@@ -8,13 +8,13 @@ use Rattle.script.proofs.desk.take_lines.Statement.{statement}
 use Rattle.script.proofs.desk.take_lines.Tie as tie
 
 abbrev Inv-loop : tie.InvT-loop
-Inv-loop name text sheet₀ answer₀ d₀ at₀ sheet answer d at = (length sheet ≡ length sheet₀) × (length answer ≡ length answer₀)
+Inv-loop name text d₀ sheet₀ answer₀ r₀ at₀ d sheet answer r at = (length sheet ≡ length sheet₀) × (length answer ≡ length answer₀)
 
 abbrev μ-loop : tie.MeasureT-loop
-μ-loop name text sheet₀ answer₀ d₀ at₀ sheet answer d at = length text - at
+μ-loop name text d₀ sheet₀ answer₀ r₀ at₀ d sheet answer r at = length text - at
 
-at-start-requires : tie.Need-at-start-requires Inv-loop μ-loop
-at-start-requires c κs = search needs
+no-record-requires : tie.Need-no-record-requires Inv-loop μ-loop
+no-record-requires c κs = search needs
 
 loop-holds : tie.Need-loop-holds Inv-loop μ-loop
 loop-holds c = search needs
@@ -58,7 +58,7 @@ take-lines-spec =
     (tie.spec
     Inv-loop
     μ-loop
-    at-start-requires
+    no-record-requires
     loop-holds
     line-end-requires
     take-line-requires

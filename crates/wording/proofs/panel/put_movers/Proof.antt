@@ -8,10 +8,10 @@ use Rattle.wording.proofs.panel.put_movers.Statement.{statement}
 use Rattle.wording.proofs.panel.put_movers.Tie as tie
 
 abbrev Inv-loop : tie.InvT-loop
-Inv-loop buf₀ n movers pos₀ p₀ buf pos p = length buf ≡ length buf₀
+Inv-loop buf₀ movers n pos₀ p₀ buf pos p = length buf ≡ length buf₀
 
 abbrev μ-loop : tie.MeasureT-loop
-μ-loop buf₀ n movers pos₀ p₀ buf pos p = 64 - p
+μ-loop buf₀ movers n pos₀ p₀ buf pos p = 64 - p
 
 slice-aggregate-put-text : tie.Need-slice-aggregate-put-text Inv-loop μ-loop
 slice-aggregate-put-text c = search needs

@@ -1,17 +1,17 @@
--- `wording::panel::put_listed` is safe and ends.
+-- `wording::panel::put_steps` is safe and ends.
 -- Assumes nothing.
 use borrow.Author.Needs.{needs}
 use mathlib.Core.Path.{_≡_}
 use Prim.Native.Nat.{_-_}
 use lib.ListN.{length}
-use Rattle.wording.proofs.panel.put_listed.Statement.{statement}
-use Rattle.wording.proofs.panel.put_listed.Tie as tie
+use Rattle.wording.proofs.panel.put_steps.Statement.{statement}
+use Rattle.wording.proofs.panel.put_steps.Tie as tie
 
 abbrev Inv-loop : tie.InvT-loop
-Inv-loop buf₀ count steps pos₀ i₀ buf pos i = length buf ≡ length buf₀
+Inv-loop buf₀ steps count pos₀ i₀ buf pos i = length buf ≡ length buf₀
 
 abbrev μ-loop : tie.MeasureT-loop
-μ-loop buf₀ count steps pos₀ i₀ buf pos i = 256 - i
+μ-loop buf₀ steps count pos₀ i₀ buf pos i = 256 - i
 
 slice-aggregate-put-text : tie.Need-slice-aggregate-put-text Inv-loop μ-loop
 slice-aggregate-put-text c = search needs
@@ -49,8 +49,8 @@ same-length c = search needs
 returns : tie.Need-returns Inv-loop μ-loop
 returns c = search needs
 
-pub put-listed-spec : {M : Type 1} → statement M
-put-listed-spec =
+pub put-steps-spec : {M : Type 1} → statement M
+put-steps-spec =
     tie.close
     (tie.spec
     Inv-loop
