@@ -24,10 +24,14 @@ pub fn command_length(g: u64) -> usize
     (g / 16777216 % 4) as usize
 }
 
+// All three bytes.
+pub fn bytes_of(g: u64) -> [u8; 3] {
+    [command_byte(g, 0), command_byte(g, 1), command_byte(g, 2)]
+}
+
 // The bytes of a taking back by key.
 pub fn undo_bytes(key: u64) -> [u8; 3] {
-    let g = made(3, key, 3);
-    [command_byte(g, 0), command_byte(g, 1), command_byte(g, 2)]
+    bytes_of(made(3, key, 3))
 }
 
 // Whether a key is live and not the highest, and, where that is asked, may be taken back.

@@ -6,10 +6,12 @@ use crate::counts::ALTERED;
 use crate::counts::judged;
 use crate::judge::ANSWER;
 use crate::judge::RECORD;
-use crate::judge::commanded;
-use crate::judge::said;
 use crate::judge::shown_differs;
 use crate::judge::unless;
+use case_records::heard::HEARD;
+use case_records::heard::SAID;
+use case_records::heard::commanded;
+use case_records::same_record;
 use generated::counts::more;
 use generated::rows::part;
 use oracle::NO_KEY;
@@ -17,7 +19,6 @@ use oracle::REFUSED;
 use oracle::STATE;
 use oracle::key_after;
 use oracle::reader::count;
-use same_record::same_record;
 use session::Record;
 
 // The next live serial, or the first.
@@ -37,10 +38,9 @@ fn value_for(s: &[u64], old: u64, which: usize) -> u64 {
 // A command of kind 1, 2 or 3.
 fn command_differs(r: Record, sheet: &[u8], p: usize) -> u64 {
     let bytes = [(p % 3 + 1) as u8, 0, 0];
-    let done = commanded(r, sheet, &bytes);
-    let o = done.outcome;
-    let next = o.session;
-    let answer = unless(said(done) == oracle::reply(REFUSED, 10), ANSWER);
+    let mut h = [0u64; HEARD];
+    let next = commanded(r, sheet, &bytes, &mut h);
+    let answer = unless(h[SAID] == oracle::reply(REFUSED, 10), ANSWER);
     answer | unless(same_record(r, next), RECORD)
 }
 

@@ -1,8 +1,7 @@
 // A record's lamps (document 02, T-06) by the customer's calls, held against kind 3 on a copy of the record, and against kind 3 on a copy
 // of the second engine's state; and its table, held against the second engine's live firings and their moved sets.
 use crate::counts::count_lamp;
-use commands::value_of;
-use commands::word_of;
+use case_records::heard::answer_to;
 use generated::commands::undo_bytes;
 use lamps::LampsAnswer;
 use net::Key;
@@ -15,10 +14,7 @@ use oracle::key_after;
 use oracle::key_at;
 use oracle::moved_at;
 use oracle::sets::has;
-use session::Counted;
 use session::Record;
-use session::command_with;
-use tally::Tally;
 
 // What differs is a sum of these: the answer to a command, the table, a lamp, kind 3 on a copy; of all lamps the number, the count, a
 // flag; the record after a refused command; what was worked out by hand.
@@ -44,28 +40,12 @@ pub fn unless(same: bool, what: u64) -> u64 {
     if same { 0 } else { what }
 }
 
-pub fn commanded(r: Record, sheet: &[u8], bytes: &[u8]) -> Counted {
-    let none = Tally {
-        fired: 0,
-        undone: 0,
-        refused: 0,
-    };
-    command_with(r, sheet, bytes, none)
-}
-
-// An answer as one number: the word, 65,536 times, and the value.
-pub fn said(after: Counted) -> u64 {
-    let o = after.outcome;
-    let a = o.answer;
-    word_of(a) as u64 * 65536 + value_of(a, o.key) as u64
-}
-
 // The lamp of a serial, and kind 3 with it on a copy of the record.
 fn lamp_differs(r: Record, sheet: &[u8], key: u64, yes: bool) -> u64 {
     let k = Key((key % 65536) as u16);
     let lit = r.can_undo(sheet, k);
     let bytes = undo_bytes(key);
-    let undone = said(commanded(r, sheet, &bytes)) == oracle::reply(UNDONE, key);
+    let undone = answer_to(r, sheet, &bytes) == oracle::reply(UNDONE, key);
     unless(lit == yes, LAMP) | unless(undone == yes, KIND_3)
 }
 

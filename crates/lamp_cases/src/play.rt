@@ -12,13 +12,14 @@ use crate::counts::judged;
 use crate::hand::hand_differs;
 use crate::hand::letter_command;
 use crate::judge::ANSWER;
-use crate::judge::commanded;
-use crate::judge::said;
 use crate::judge::shown_differs;
 use crate::judge::table_differs;
 use crate::judge::unless;
+use case_records::heard::HEARD;
+use case_records::heard::SAID;
+use case_records::heard::commanded;
 use case_tools::bytes::byte;
-use generated::commands::command_byte;
+use generated::commands::bytes_of;
 use generated::commands::command_of;
 use generated::counts::more;
 use generated::random::below;
@@ -55,13 +56,11 @@ fn settled(
     c: &mut [u64],
     sheet: &[u8],
     s: &[u64],
-    before: Record,
-    after: Record,
+    old: [u16; MAX_BASES],
+    new: [u16; MAX_BASES],
     ours: u64,
     reply: u64,
 ) {
-    let old = before.movers;
-    let new = after.movers;
     more(c, TABLES, 1, true);
     more(c, MIDDLE, 1, is_middle(s, reply));
     count_entries(c, sheet, s, old, new, reply);
@@ -75,12 +74,13 @@ fn settled(
 
 // A command, given to both engines; all have three bytes.
 fn turn(c: &mut [u64], r: Record, sheet: &[u8], s: &mut [u64], g: u64) -> Record {
-    let bytes = [command_byte(g, 0), command_byte(g, 1), command_byte(g, 2)];
+    let bytes = bytes_of(g);
     let reply = oracle::command(sheet, &bytes, s);
-    let done = commanded(r, sheet, &bytes);
-    let o = done.outcome;
-    let next = o.session;
-    settled(c, sheet, s, r, next, said(done), reply);
+    let mut h = [0u64; HEARD];
+    let next = commanded(r, sheet, &bytes, &mut h);
+    let old = r.movers;
+    let new = next.movers;
+    settled(c, sheet, s, old, new, h[SAID], reply);
     next
 }
 

@@ -14,12 +14,12 @@ use crate::lines::WORDS;
 use crate::lines::count_of;
 use crate::lines::lay_live;
 use crate::lines::step_at;
+use case_records::same_record;
 use generated::commands::made;
 use generated::counts::more;
 use generated::random::mixed;
 use oracle::sets::get;
 use oracle::sets::put;
-use same_record::same_record;
 use session::Record;
 use session_start::start;
 

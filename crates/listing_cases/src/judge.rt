@@ -11,10 +11,11 @@ use crate::lines::count_of;
 use crate::lines::first_other;
 use crate::lines::set_counts;
 use crate::lines::step_at;
+use case_records::heard::HEARD;
+use case_records::heard::SAID;
+use case_records::heard::commanded;
 use case_tools::bytes::byte;
-use commands::value_of;
-use commands::word_of;
-use generated::commands::command_byte;
+use generated::commands::bytes_of;
 use listing::ListingAnswer;
 use net::MAX_LIVE;
 use net::Transition;
@@ -22,10 +23,7 @@ use oracle::FIRED;
 use oracle::broken;
 use oracle::sets::get;
 use oracle::sets::put;
-use session::Counted;
 use session::Record;
-use session::command_with;
-use tally::Tally;
 
 // What differs is a sum of these: the answer to a command; of the listing the number, how many steps, the steps; the first of all orders; of
 // the steps fired once more the live firings, the marking, the listing; of a pair, whether the listings are equal.
@@ -51,13 +49,6 @@ pub fn unless(same: bool, what: u64) -> u64 {
     if same { 0 } else { what }
 }
 
-// An answer as one number: the word, 65,536 times, and the value.
-fn said(after: Counted) -> u64 {
-    let o = after.outcome;
-    let a = o.answer;
-    word_of(a) as u64 * 65536 + value_of(a, o.key) as u64
-}
-
 fn compared(c: &mut [u64], s: &[u64], ours: u64, reply: u64) {
     note_uncoupled(c, (reply / 65536 == FIRED) & (broken(s) != 0));
     judged(c, 0, ours, reply, unless(ours == reply, ANSWER));
@@ -65,17 +56,12 @@ fn compared(c: &mut [u64], s: &[u64], ours: u64, reply: u64) {
 
 // A command, given to both engines; all have three bytes. The answers are compared, and whether the step uncoupled is kept.
 pub fn turn(c: &mut [u64], r: Record, sheet: &[u8], s: &mut [u64], g: u64) -> Record {
-    let none = Tally {
-        fired: 0,
-        undone: 0,
-        refused: 0,
-    };
-    let bytes = [command_byte(g, 0), command_byte(g, 1), command_byte(g, 2)];
+    let bytes = bytes_of(g);
     let reply = oracle::command(sheet, &bytes, s);
-    let done = command_with(r, sheet, &bytes, none);
-    compared(c, s, said(done), reply);
-    let o = done.outcome;
-    o.session
+    let mut h = [0u64; HEARD];
+    let next = commanded(r, sheet, &bytes, &mut h);
+    compared(c, s, h[SAID], reply);
+    next
 }
 
 // The number of an answer; 0 where the listing is given.

@@ -5,15 +5,16 @@
 ghost use mathlib.Core.Path.{_≡_};
 ghost use Prim.Native.Nat.{_≤_};
 ghost use lib.ListN.{length};
-use crate::case::Case;
 use crate::edits::edited;
+use case_records::heard::HEARD;
+use case_records::heard::commanded;
+use case_records::same_record;
 use oracle::sets::get;
-use same_record::same_record;
 use session::Record;
 use session::block::BlockAnswer;
 use session::block::BlockCounted;
+use session::block::BlockOutcome;
 use session::block::block_with;
-use session::command_with;
 use tally::Tally;
 
 // One entry more than a block may have commands.
@@ -82,15 +83,14 @@ fn tally_holds(t: Tally, u: Tally, whole: usize, cut: usize) -> bool {
 
 // The record after so many whole commands: with so many keys more given, of firings that were taken back, and then as it was or with step 0
 // fired.
-fn record_after(r: Record, sheet: &[u8], whole: usize, t: Tally) -> Record {
+fn record_after(r: Record, sheet: &[u8], whole: usize) -> Record {
     let given = r.given;
     let before = edited(r, 9, 0, given.0 as u64 + (whole / 2 % 1001) as u64);
     if whole % 2 == 0 {
         return before;
     }
-    let done = command_with(before, sheet, b"\x01\x00\x00", t);
-    let o = done.outcome;
-    o.session
+    let mut h = [0u64; HEARD];
+    commanded(before, sheet, b"\x01\x00\x00", &mut h)
 }
 
 fn number_of(a: BlockAnswer) -> u64 {
@@ -101,17 +101,31 @@ fn number_of(a: BlockAnswer) -> u64 {
 }
 
 // Whether the outcome has this number, count and record.
-fn outcome_holds(x: BlockCounted, number: u64, count: usize, after: Record) -> bool {
-    let o = x.outcome;
+fn outcome_holds(o: BlockOutcome, number: u64, count: usize, after: Record) -> bool {
     let a = o.answer;
     let r = o.session;
     (number_of(a) == number) & ((o.count == count) & same_record(r, after))
 }
 
+// What the block gave on a record with so many whole commands, one cut short or none, and so many answers.
+fn given_holds(
+    x: BlockCounted,
+    r: Record,
+    t: Tally,
+    sheet: &[u8],
+    number: u64,
+    whole: usize,
+    cut: usize,
+    count: usize,
+) -> bool {
+    let u = x.tally;
+    let after = record_after(r, sheet, whole);
+    let o = x.outcome;
+    tally_holds(t, u, whole, cut) & outcome_holds(o, number, count, after)
+}
+
 // The row: 3 the block's bytes, 4 and 5 the entries of the two lists, 6 the number of the answer, 0 where the block is run.
-pub fn block_holds(c: Case, sheet: &[u8], w: &[u64]) -> bool {
-    let r = c.session;
-    let t = c.tally;
+pub fn block_holds(r: Record, t: Tally, sheet: &[u8], w: &[u64]) -> bool {
     let number = get(w, 6);
     let n = at_most(get(w, 3), BYTES);
     let b = the_block();
@@ -129,9 +143,7 @@ pub fn block_holds(c: Case, sheet: &[u8], w: &[u64]) -> bool {
     let whole = bytes / 3;
     let cut = (bytes % 3 + 1) / 2;
     let count = whole + cut;
-    let after = record_after(r, sheet, whole, t);
-    let u = x.tally;
     let given = r.given;
     let lists = lists_hold(whole, count, given.0, &words, &values);
-    lists & (tally_holds(t, u, whole, cut) & outcome_holds(x, number, count, after))
+    lists & given_holds(x, r, t, sheet, number, whole, cut, count)
 }

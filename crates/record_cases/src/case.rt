@@ -1,38 +1,32 @@
-// A session under test: the record and the tally that the command before left, the record that edits begin with, how many
-// cases were run and differed. Each command is the customer's call with a lent tally. Its answer and key are compared with those
-// worked out from document 01; the tally has one more in one count, and a refused command hands back the very record.
-use case_tools::bytes::one_more;
-use commands::Answer;
-use commands::value_of;
-use commands::word_of;
-use net::Key;
-use same_record::same_record;
+// A session under test: the record that the command before left goes by value, and beside it in lent numbers what that command gave
+// (case_records, heard) and how many cases were run and differed. Each command is the customer's call with a lent tally. Its answer and
+// key are compared with those worked out from document 01; the tally has one more in one count, and a refused command hands back the
+// very record.
+use case_records::heard;
+use case_records::heard::HEARD;
+use case_records::heard::KEY;
+use case_records::heard::SAID;
+use case_records::heard::commanded;
+use case_records::heard::tally_in;
+use case_records::same_record;
 use session::Record;
-use session::command_with;
 use tally::Tally;
 
-pub struct Case {
-    pub session: Record,
-    pub own: Record,
-    pub tally: Tally,
-    pub run: u16,
-    pub differed: u16,
-}
+// How many were run, and how many differed; not 0 where the record in hand is the one that edits begin with.
+pub const COUNTS: usize = 3;
+
+pub const RUN: usize = 0;
+
+pub const DIFFERED: usize = 1;
+
+pub const RENEWED: usize = 2;
 
 // One more run, and one more that differed unless it was as expected.
-pub fn counted(c: Case, same: bool) -> Case {
-    let mut next = c;
-    next.run = one_more(c.run);
+pub fn counted(c: &mut [u64; COUNTS], same: bool) {
+    c[RUN] = c[RUN] % 65536 + 1;
     if !same {
-        next.differed = one_more(c.differed);
+        c[DIFFERED] = c[DIFFERED] % 65536 + 1;
     }
-    next
-}
-
-pub fn with_record(c: Case, r: Record) -> Case {
-    let mut next = c;
-    next.session = r;
-    next
 }
 
 // An answer as a number: a refusal's own, from 1 to 22, and two others.
@@ -40,43 +34,48 @@ const FIRED: u64 = 30;
 
 const UNDONE: u64 = 31;
 
-fn code_of(a: Answer, key: Key) -> u64 {
-    let word = word_of(a) as u64;
-    if word < 2 {
-        30 + word
+fn code_of(said: u64) -> u64 {
+    if said < 131072 {
+        30 + said / 65536
     } else {
-        value_of(a, key) as u64
+        said % 65536
     }
 }
 
 // Whether a count has one more, where that is asked, and else stays; a count at 65,535 stays.
-fn follows(before: u16, after: u16, adds: bool) -> bool {
-    if adds {
-        after == one_more(before)
+fn follows(before: u16, after: u64, adds: bool) -> bool {
+    if adds & (before < 65535) {
+        after == before as u64 + 1
     } else {
-        after == before
+        after == before as u64
     }
 }
 
-fn tally_follows(before: Tally, after: Tally, code: u64) -> bool {
-    let fired = follows(before.fired, after.fired, code == FIRED);
-    let undone = follows(before.undone, after.undone, code == UNDONE);
-    fired & (undone & follows(before.refused, after.refused, code < FIRED))
+fn tally_follows(before: Tally, h: &[u64; HEARD], code: u64) -> bool {
+    let fired = follows(before.fired, h[heard::FIRED], code == FIRED);
+    let undone = follows(before.undone, h[heard::UNDONE], code == UNDONE);
+    fired & (undone & follows(before.refused, h[heard::REFUSED], code < FIRED))
 }
 
-// A command, and the code and the key that it is to be answered with.
-pub fn given(c: Case, sheet: &[u8], bytes: &[u8], code: u64, key: u64) -> Case {
-    let r = c.session;
-    let t = c.tally;
-    let after = command_with(r, sheet, bytes, t);
-    let o = after.outcome;
-    let a = o.answer;
-    let s = o.session;
-    let u = after.tally;
-    let met = (code_of(a, o.key) == code) & (o.key.0 as u64 == key);
-    let kept = same_record(r, s) | (FIRED <= code);
-    let mut next = counted(c, met & (kept & tally_follows(t, u, code)));
-    next.session = s;
-    next.tally = u;
-    next
+// Whether a command was answered by a code and a key, with the tally that it found.
+fn is_answered(before: Tally, h: &[u64; HEARD], code: u64, key: u64) -> bool {
+    let met = (code_of(h[SAID]) == code) & (h[KEY] == key);
+    met & tally_follows(before, h, code)
+}
+
+// A command, and the code and the key that it is to be answered with; the record after it.
+pub fn given(
+    r: Record,
+    h: &mut [u64; HEARD],
+    c: &mut [u64; COUNTS],
+    sheet: &[u8],
+    bytes: &[u8],
+    code: u64,
+    key: u64,
+) -> Record {
+    let before = tally_in(h);
+    let after = commanded(r, sheet, bytes, h);
+    let kept = same_record(r, after) | (FIRED <= code);
+    counted(c, kept & is_answered(before, h, code, key));
+    after
 }

@@ -9,15 +9,25 @@ mod edits;
 mod lines;
 
 use blocks::block_holds;
-use case::Case;
+use case::COUNTS;
+use case::DIFFERED;
+use case::RENEWED;
+use case::RUN;
 use case::counted;
 use case::given;
-use case::with_record;
+use case_records::heard::FIRED;
+use case_records::heard::HEARD;
+use case_records::heard::REFUSED;
+use case_records::heard::UNDONE;
+use case_records::heard::keep_tally;
+use case_records::heard::tally_in;
 use case_tools::bytes::byte;
 use case_tools::bytes::put;
 use case_tools::bytes::put_all;
 use case_tools::print::print_run;
 use edits::edited;
+use generated::commands::bytes_of;
+use generated::commands::made;
 use generated::rows::find;
 use generated::rows::part;
 use generated::rows::read_numbers;
@@ -61,174 +71,214 @@ fn sheet_at<'a>(all: &'a [u8], k: u64) -> &'a [u8] {
     part(all, from, from + byte(all, from + 255) as usize)
 }
 
-fn tally_of(n: u16) -> Tally {
-    Tally {
-        fired: n,
-        undone: n,
-        refused: n,
-    }
+// The three counts of the tally at one number.
+fn set_tally(h: &mut [u64; HEARD], n: u16) {
+    keep_tally(
+        h,
+        Tally {
+            fired: n,
+            undone: n,
+            refused: n,
+        },
+    );
 }
 
 // Row 0: a fresh session on a sheet; where it is refused a record of zeros. The counts stay.
-fn begun(c: Case, sheet: &[u8]) -> Case {
+fn begun(h: &mut [u64; HEARD], c: &mut [u64; COUNTS], sheet: &[u8]) -> Record {
+    set_tally(h, 0);
+    c[RENEWED] = 1;
     let first = start(sheet);
-    let r = first.session;
-    Case {
-        session: r,
-        own: r,
-        tally: tally_of(0),
-        run: c.run,
-        differed: c.differed,
-    }
+    first.session
 }
 
 // Row 1: what was run so far leads to the record that edits begin with, and is not counted.
-fn marked(c: Case) -> Case {
-    let r = c.session;
-    Case {
-        session: r,
-        own: r,
-        tally: tally_of(0),
-        run: 0,
-        differed: 0,
-    }
+fn mark(h: &mut [u64; HEARD], c: &mut [u64; COUNTS]) {
+    set_tally(h, 0);
+    c[RUN] = 0;
+    c[DIFFERED] = 0;
+    c[RENEWED] = 1;
 }
 
 // Row 2: on sheet 2 a command of 3 bytes, its kind 4 and number 5, is answered by code 6 with key 7, and so on to key 8.
-fn commanded(first: Case, all: &[u8], w: &[u64]) -> Case {
-    let number = get(w, 5);
-    let bytes = [
-        (get(w, 4) % 256) as u8,
-        (number % 256) as u8,
-        (number / 256 % 256) as u8,
-    ];
-    let command = part(&bytes, 0, (get(w, 3) % 4) as usize);
+fn each_given(
+    first: Record,
+    h: &mut [u64; HEARD],
+    c: &mut [u64; COUNTS],
+    sheet: &[u8],
+    command: &[u8],
+    w: &[u64],
+) -> Record {
     let to = get(w, 8) % 65536 + 1;
-    let mut c = first;
+    let mut r = first;
     let mut key = get(w, 7);
     while key < to {
-        c = given(c, sheet_at(all, get(w, 2)), command, get(w, 6), key);
+        r = given(r, h, c, sheet, command, get(w, 6), key);
         key += 1;
     }
-    c
+    r
+}
+
+fn commanded(
+    r: Record,
+    h: &mut [u64; HEARD],
+    c: &mut [u64; COUNTS],
+    all: &[u8],
+    w: &[u64],
+) -> Record {
+    let bytes = bytes_of(made(get(w, 4), get(w, 5), 3));
+    let command = part(&bytes, 0, (get(w, 3) % 4) as usize);
+    each_given(r, h, c, sheet_at(all, get(w, 2)), command, w)
 }
 
 // A taking back of the last on an altered record.
-fn tried(c: Case, r: Record, all: &[u8], w: &[u64], i: u64) -> Case {
+fn tried(
+    r: Record,
+    h: &mut [u64; HEARD],
+    c: &mut [u64; COUNTS],
+    all: &[u8],
+    w: &[u64],
+    i: u64,
+) -> Record {
     let next = edited(r, get(w, 2), (i % 4294967296) as usize, get(w, 5));
-    given(
-        with_record(c, next),
-        sheet_at(all, get(w, 6)),
-        b"\x02\x00\x00",
-        get(w, 7),
-        get(w, 8),
-    )
+    let sheet = sheet_at(all, get(w, 6));
+    given(next, h, c, sheet, b"\x02\x00\x00", get(w, 7), get(w, 8))
 }
 
 // Row 4: the record as it is, with edit 2 at each index from 3 to 4 with value 5; on sheet 6 a taking back of the last is answered
 // by code 7 with key 8. A record that is still sound is answered `undone` with its last serial, any other 10. Then the record is the
 // one that edits begin with.
-fn each_tried(first: Case, all: &[u8], w: &[u64]) -> Case {
-    let r = first.session;
+fn try_each(r: Record, h: &mut [u64; HEARD], c: &mut [u64; COUNTS], all: &[u8], w: &[u64]) {
     let to = get(w, 4) % 65536 + 1;
-    let mut c = first;
     let mut i = get(w, 3);
     while i < to {
-        c = tried(c, r, all, w, i);
+        tried(r, h, c, all, w, i);
         i += 1;
     }
-    with_record(c, first.own)
 }
 
 // Row 3: an edit, which stays.
-fn altered(c: Case, w: &[u64]) -> Case {
-    let r = edited(
-        c.session,
-        get(w, 2),
-        (get(w, 3) % 4294967296) as usize,
-        get(w, 4),
-    );
-    with_record(c, r)
-}
-
-// Row 5: three counts at one number.
-fn with_tally(c: Case, n: u16) -> Case {
-    let mut next = c;
-    next.tally = tally_of(n);
-    next
+fn altered(r: Record, w: &[u64]) -> Record {
+    edited(r, get(w, 2), (get(w, 3) % 4294967296) as usize, get(w, 4))
 }
 
 // Row 6: the tally has these counts.
-fn is_tally(t: Tally, w: &[u64]) -> bool {
-    let fired = t.fired as u64 == get(w, 2);
-    let undone = t.undone as u64 == get(w, 3);
-    fired & (undone & (t.refused as u64 == get(w, 4)))
+fn is_tally(h: &[u64; HEARD], w: &[u64]) -> bool {
+    let fired = h[FIRED] == get(w, 2);
+    let undone = h[UNDONE] == get(w, 3);
+    fired & (undone & (h[REFUSED] == get(w, 4)))
 }
 
 // Row 7: a command on the first bytes of sheet 2, so many as 3 says, the byte at 4 changed to 5, is answered by the sheet's number, 6.
-fn on_damaged(c: Case, all: &[u8], w: &[u64]) -> Case {
+fn on_damaged(
+    r: Record,
+    h: &mut [u64; HEARD],
+    c: &mut [u64; COUNTS],
+    all: &[u8],
+    w: &[u64],
+) -> Record {
     let mut room = [0u8; 256];
     put_all(&mut room, 0, sheet_at(all, get(w, 2)));
     put(&mut room, (get(w, 4) % 256) as usize, get(w, 5));
     let sheet = part(&room, 0, (get(w, 3) % 256) as usize);
-    given(c, sheet, b"\x01\x00\x00", get(w, 6), 0)
+    given(r, h, c, sheet, b"\x01\x00\x00", get(w, 6), 0)
 }
 
 // Row 9: a block on the record in hand and sheet A with version 2 (module blocks has the other numbers).
-fn on_block(c: Case, all: &[u8], w: &[u64]) -> Case {
+fn on_block(r: Record, t: Tally, all: &[u8], w: &[u64]) -> bool {
     let mut room = [0u8; 256];
     put_all(&mut room, 0, sheet_at(all, 0));
     put(&mut room, 0, get(w, 2));
-    counted(c, block_holds(c, part(&room, 0, 40), w))
+    block_holds(r, t, part(&room, 0, 40), w)
 }
 
-fn stepped(c: Case, all: &[u8], letters: &[u8], w: &[u64]) -> Case {
+// The rows that compare one thing and leave the record as it is.
+fn holds(r: Record, h: &[u64; HEARD], all: &[u8], letters: &[u8], w: &[u64]) -> bool {
     let kind = get(w, 1);
-    if kind == 0 {
-        return begun(c, sheet_at(all, get(w, 2)));
-    }
-    if kind == 1 {
-        return marked(c);
-    }
-    if kind == 2 {
-        return commanded(c, all, w);
-    }
-    if kind == 3 {
-        return altered(c, w);
-    }
-    if kind == 4 {
-        return each_tried(c, all, w);
-    }
-    if kind == 5 {
-        return with_tally(c, (get(w, 2) % 65536) as u16);
-    }
     if kind == 6 {
-        return counted(c, is_tally(c.tally, w));
-    }
-    if kind == 7 {
-        return on_damaged(c, all, w);
+        return is_tally(h, w);
     }
     if kind == 9 {
-        return on_block(c, all, w);
+        return on_block(r, tally_in(h), all, w);
     }
-    counted(c, lined(letters, w))
+    lined(letters, w)
 }
 
-fn printed(c: Case, name: &[u8]) -> Case {
-    if name.len() == 0 {
-        return c;
+// The rows that leave the record as it is.
+fn step_beside(
+    r: Record,
+    h: &mut [u64; HEARD],
+    c: &mut [u64; COUNTS],
+    all: &[u8],
+    letters: &[u8],
+    w: &[u64],
+) {
+    let kind = get(w, 1);
+    if kind == 1 {
+        mark(h, c);
+        return;
     }
-    print_run(name, c.run as u64, c.differed as u64);
-    marked(c)
+    if kind == 5 {
+        set_tally(h, (get(w, 2) % 65536) as u16);
+        return;
+    }
+    let same = holds(r, h, all, letters, w);
+    counted(c, same);
 }
 
-fn read_row(c: Case, all: &[u8], line: &[u8]) -> Case {
+// A row on the record in hand; `own` is the one that edits begin with. The record after it.
+fn stepped(
+    r: Record,
+    own: Record,
+    h: &mut [u64; HEARD],
+    c: &mut [u64; COUNTS],
+    all: &[u8],
+    letters: &[u8],
+    w: &[u64],
+) -> Record {
+    let kind = get(w, 1);
+    if kind == 0 {
+        return begun(h, c, sheet_at(all, get(w, 2)));
+    }
+    if kind == 2 {
+        return commanded(r, h, c, all, w);
+    }
+    if kind == 3 {
+        return altered(r, w);
+    }
+    if kind == 4 {
+        try_each(r, h, c, all, w);
+        return own;
+    }
+    if kind == 7 {
+        return on_damaged(r, h, c, all, w);
+    }
+    step_beside(r, h, c, all, letters, w);
+    r
+}
+
+fn print_group(h: &mut [u64; HEARD], c: &mut [u64; COUNTS], name: &[u8]) {
+    if name.len() != 0 {
+        print_run(name, c[RUN], c[DIFFERED]);
+        mark(h, c);
+    }
+}
+
+fn read_row(
+    r: Record,
+    own: Record,
+    h: &mut [u64; HEARD],
+    c: &mut [u64; COUNTS],
+    all: &[u8],
+    line: &[u8],
+) -> Record {
     let colon = find(line, 0, b':');
     let space = find(line, colon, b' ');
     let mut w = [0u64; 16];
     read_numbers(&mut w, part(line, space, line.len()));
-    let next = stepped(c, all, part(line, colon, space), &w);
-    printed(next, part(line, 0, colon))
+    c[RENEWED] = 0;
+    let next = stepped(r, own, h, c, all, part(line, colon, space), &w);
+    print_group(h, c, part(line, 0, colon));
+    next
 }
 
 // The position after one that is before the end.
@@ -239,21 +289,22 @@ fn after(end: usize, n: usize) -> usize
     end + 1
 }
 
+// The record that edits begin with, behind a row.
+fn own_after(own: Record, r: Record, renewed: u64) -> Record {
+    if renewed != 0 { r } else { own }
+}
+
 fn read_rows(all: &[u8], text: &[u8]) {
-    let first = start(sheet_at(all, 1));
-    let r = first.session;
-    let mut c = Case {
-        session: r,
-        own: r,
-        tally: tally_of(0),
-        run: 0,
-        differed: 0,
-    };
+    let mut h = [0u64; HEARD];
+    let mut c = [0u64; COUNTS];
+    let mut r = begun(&mut h, &mut c, sheet_at(all, 1));
+    let mut own = r;
     let n = text.len();
     let mut at: usize = 0;
     while at < n {
         let end = find(text, at, b'\n');
-        c = read_row(c, all, part(text, at, end));
+        r = read_row(r, own, &mut h, &mut c, all, part(text, at, end));
+        own = own_after(own, r, c[RENEWED]);
         if n <= end {
             return;
         }

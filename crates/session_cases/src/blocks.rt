@@ -4,33 +4,37 @@
 // ends with a command of one byte, every third with one of two.
 ghost use Prim.Native.Nat.{_≤_};
 use crate::compare::differs;
+use crate::compare::unless;
 use crate::counts::BLOCKS;
 use crate::input::size_of;
 use crate::play::begun;
 use crate::play::given;
-use crate::play::said;
+use case_records::heard::HEARD;
+use case_records::heard::SAID;
+use case_records::heard::keep_tally;
+use case_records::heard::tally_in;
 use case_tools::bytes::byte;
 use case_tools::bytes::put_all;
-use generated::commands::command_byte;
+use generated::commands::bytes_of;
 use generated::commands::command_of;
 use generated::counts::differing;
 use generated::counts::more;
 use generated::rows::part;
 use oracle::sets::get;
 use oracle::sets::put;
-use session::Counted;
+use session::Record;
 use session::block::BlockAnswer;
-use session::block::BlockOutcome;
+use session::block::BlockCounted;
 use session::block::block_with;
 use session_start::start;
-use tally::Tally;
 
 // The most commands of a block.
 const MOST: usize = 1000;
 
 // A command of so many bytes, given singly: its answer goes to the answers.
 fn noted(
-    p: Counted,
+    r: Record,
+    h: &mut [u64; HEARD],
     c: &mut [u64],
     sheet: &[u8],
     s: &mut [u64],
@@ -39,12 +43,12 @@ fn noted(
     size: usize,
     seed: u64,
     i: u64,
-) -> Counted
+) -> Record
     requires { ⌜ size ≤ 3 ⌝ }
 {
-    let bytes = [command_byte(g, 0), command_byte(g, 1), command_byte(g, 2)];
-    let after = given(p, c, sheet, s, &bytes[0..size], seed, i);
-    put(answers, i as usize, said(after));
+    let bytes = bytes_of(g);
+    let after = given(r, h, c, sheet, s, &bytes[0..size], seed, i);
+    put(answers, i as usize, h[SAID]);
     after
 }
 
@@ -52,13 +56,14 @@ fn noted(
 fn put_command(block: &mut [u8], i: u64, g: u64)
     requires { ⌜ i ≤ 1000 ⌝ }
 {
-    let bytes = [command_byte(g, 0), command_byte(g, 1), command_byte(g, 2)];
+    let bytes = bytes_of(g);
     put_all(block, 3 * i as usize, &bytes);
 }
 
 // Command i by lot, of so many bytes.
 fn step(
-    p: Counted,
+    r: Record,
+    h: &mut [u64; HEARD],
     c: &mut [u64],
     sheet: &[u8],
     s: &mut [u64],
@@ -67,17 +72,18 @@ fn step(
     seed: u64,
     i: u64,
     size: usize,
-) -> Counted
+) -> Record
     requires { ⌜ (size ≤ 3) × (i ≤ 1000) ⌝ }
 {
     let g = command_of(sheet, s, seed, i, 40);
     put_command(block, i, g);
-    noted(p, c, sheet, s, answers, g, size, seed, i)
+    noted(r, h, c, sheet, s, answers, g, size, seed, i)
 }
 
 // All n commands.
 fn steps(
-    first: Counted,
+    first: Record,
+    h: &mut [u64; HEARD],
     c: &mut [u64],
     sheet: &[u8],
     s: &mut [u64],
@@ -85,26 +91,16 @@ fn steps(
     answers: &mut [u64],
     seed: u64,
     n: u64,
-) -> Counted
+)
     requires { ⌜ n ≤ 1000 ⌝ }
 {
-    let mut p = first;
+    let mut r = first;
     let mut i: u64 = 0;
     while i < n {
-        p = step(
-            p,
-            c,
-            sheet,
-            s,
-            block,
-            answers,
-            seed,
-            i,
-            size_of(n - i, seed),
-        );
+        let size = size_of(n - i, seed);
+        r = step(r, h, c, sheet, s, block, answers, seed, i, size);
         i += 1;
     }
-    p
 }
 
 // Whether entry i has the answer, or what it had where there is none: 7 and 777.
@@ -126,29 +122,29 @@ fn same_answers(words: &[u8; MOST], values: &[u16; MOST], answers: &[u64], n: us
 }
 
 // Whether the block was run, with so many answers.
-fn is_run(o: BlockOutcome, n: usize) -> bool {
-    let a = o.answer;
+fn is_run(a: BlockAnswer, count: usize, n: usize) -> bool {
     match a {
-        BlockAnswer::Ran => o.count == n,
+        BlockAnswer::Ran => count == n,
         BlockAnswer::NotRun(k) => false,
     }
 }
 
-// What the block ended in, with the last answer.
-fn ended(last: Counted, b: BlockOutcome, t: Tally) -> Counted {
-    let mut q = last.outcome;
-    let r = b.session;
-    q.session = r;
-    Counted {
-        outcome: q,
-        tally: t,
-    }
+// What the block gave, beside the last answer given singly: its tally goes to the numbers, and its record is held against the second
+// engine. Answers what differs, and 512 where it was not run.
+fn block_differs(x: BlockCounted, h: &mut [u64; HEARD], s: &[u64], bases: usize, n: usize) -> u64 {
+    let t = x.tally;
+    keep_tally(h, t);
+    let o = x.outcome;
+    let a = o.answer;
+    let ran = unless(is_run(a, o.count, n), 512);
+    let said = h[SAID];
+    ran | differs(o.session, h, said, s, bases)
 }
 
-// The block, on what the commands began with; they ended in `last`.
+// The block, on what the commands began with: a fresh record, and the tally in the first numbers. They ended in the others.
 fn handed_in(
-    first: Counted,
-    last: Counted,
+    first: [u64; HEARD],
+    last: &mut [u64; HEARD],
     c: &mut [u64],
     sheet: &[u8],
     s: &[u64],
@@ -159,17 +155,14 @@ fn handed_in(
 ) {
     let mut words = [7u8; MOST];
     let mut values = [777u16; MOST];
-    let o = first.outcome;
-    let r = o.session;
-    let x = block_with(r, sheet, block, first.tally, &mut words, &mut values);
-    let b = x.outcome;
-    let ours = said(last);
-    let p = ended(last, b, x.tally);
-    let what = differs(p, ours, ours, s, byte(sheet, 2) as usize);
-    let fine = is_run(b, n) & (same_answers(&words, &values, answers, n) & (what == 0));
+    let fresh = start(sheet);
+    let r = fresh.session;
+    let x = block_with(r, sheet, block, tally_in(&first), &mut words, &mut values);
+    let what = block_differs(x, last, s, byte(sheet, 2) as usize, n);
+    let fine = same_answers(&words, &values, answers, n) & (what == 0);
     more(c, BLOCKS, 1, true);
     if !fine {
-        differing(c, seed, n as u64, ours, ours, what);
+        differing(c, seed, n as u64, last[SAID], last[SAID], what);
     }
 }
 
@@ -197,14 +190,25 @@ pub fn generated_block(c: &mut [u64], sheet: &[u8], w: &[u64], seed: u64) {
     let n = commands_of(w, seed);
     let length = block_length(n, seed);
     let tally = get(w, 6) % 65536;
+    let first = begun(tally);
+    let mut last = first;
     let fresh = start(sheet);
     let r = fresh.session;
-    let first = begun(r, tally as u16);
     oracle::begin(sheet, &mut s, tally);
-    let last = steps(first, c, sheet, &mut s, &mut block, &mut answers, seed, n);
+    steps(
+        r,
+        &mut last,
+        c,
+        sheet,
+        &mut s,
+        &mut block,
+        &mut answers,
+        seed,
+        n,
+    );
     handed_in(
         first,
-        last,
+        &mut last,
         c,
         sheet,
         &s,

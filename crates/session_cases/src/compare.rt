@@ -1,10 +1,15 @@
 // Compares the two engines after a command: the answer with its key, the places, the bonds, the whole tally, the live list and the
 // highest key given (module live). What differs is a sum of the numbers below, and 128 for an output (module outputs).
 use crate::live::live_differs;
+use case_records::heard::FIRED;
+use case_records::heard::HEARD;
+use case_records::heard::KEY;
+use case_records::heard::REFUSED;
+use case_records::heard::SAID;
+use case_records::heard::UNDONE;
 use marking::Marking;
 use net::MAX_BASES;
 use net::MAX_BONDS;
-use oracle::REFUSED;
 use oracle::sets::MARKING;
 use oracle::sets::bonds_at;
 use oracle::sets::get;
@@ -13,8 +18,7 @@ use oracle::sets::join;
 use oracle::sets::only;
 use oracle::sets::partners;
 use oracle::tally_at;
-use session::Counted;
-use tally::Tally;
+use session::Record;
 
 const ANSWER: u64 = 1;
 
@@ -93,25 +97,23 @@ fn marking_differs(s: &[u64], m: Marking, bases: usize) -> u64 {
 }
 
 // The second engine's tally is counted from its replies.
-fn tally_differs(t: Tally, s: &[u64]) -> u64 {
-    let fired = t.fired as u64 == tally_at(s, 0);
-    let undone = t.undone as u64 == tally_at(s, 1);
-    let refused = t.refused as u64 == tally_at(s, 2);
+fn tally_differs(h: &[u64; HEARD], s: &[u64]) -> u64 {
+    let fired = h[FIRED] == tally_at(s, 0);
+    let undone = h[UNDONE] == tally_at(s, 1);
+    let refused = h[REFUSED] == tally_at(s, 2);
     unless(fired & (undone & refused), TALLY)
 }
 
 // A refused command has key 0.
-fn answer_differs(ours: u64, key: u16, reply: u64) -> u64 {
-    let keyed = (key == 0) | (ours / 65536 != REFUSED);
+fn answer_differs(ours: u64, key: u64, reply: u64) -> u64 {
+    let keyed = (key == 0) | (ours / 65536 != oracle::REFUSED);
     unless((ours == reply) & keyed, ANSWER)
 }
 
-// What differs after a command that ours answered so; 0 where nothing does.
-pub fn differs(after: Counted, ours: u64, reply: u64, s: &[u64], bases: usize) -> u64 {
-    let o = after.outcome;
-    let r = o.session;
+// What differs after a command; 0 where nothing does.
+pub fn differs(r: Record, h: &[u64; HEARD], reply: u64, s: &[u64], bases: usize) -> u64 {
     let m = r.marking;
-    let answer = answer_differs(ours, o.key.0, reply);
-    let tally = tally_differs(after.tally, s);
+    let answer = answer_differs(h[SAID], h[KEY], reply);
+    let tally = tally_differs(h, s);
     answer | (marking_differs(s, m, bases) | (tally | live_differs(r, s)))
 }

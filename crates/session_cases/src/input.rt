@@ -7,7 +7,7 @@ use crate::lines::put_line;
 use case_tools::bytes::byte;
 use case_tools::bytes::put;
 use case_tools::bytes::put_all;
-use generated::commands::command_byte;
+use generated::commands::bytes_of;
 use generated::commands::command_of;
 use generated::rows::part;
 
@@ -34,7 +34,7 @@ fn advanced(
     requires { ⌜ i ≤ 65536 ⌝ }
 {
     let g = command_of(sheet, s, seed, i, room);
-    let bytes = [command_byte(g, 0), command_byte(g, 1), command_byte(g, 2)];
+    let bytes = bytes_of(g);
     put_all(buf, sheet.len() % 65536 + 2 + 3 * i as usize, &bytes);
     answered(buf, at, sheet, s, part(&bytes, 0, size), i)
 }

@@ -5,12 +5,12 @@
 use crate::compare::differs;
 use crate::counts::SHEETS_REFUSED;
 use crate::counts::count_command;
+use case_records::heard::HEARD;
+use case_records::heard::SAID;
+use case_records::heard::commanded;
 use case_tools::bytes::byte;
 use case_tools::movers::last_movers;
-use commands::Answer;
-use commands::value_of;
-use commands::word_of;
-use generated::commands::command_byte;
+use generated::commands::bytes_of;
 use generated::commands::command_length;
 use generated::commands::command_of;
 use generated::commands::made;
@@ -18,66 +18,58 @@ use generated::counts::differing;
 use generated::counts::more;
 use net::Key;
 use oracle::sets::get;
-use session::Counted;
-use session::Outcome;
 use session::Record;
 use session::StartAnswer;
-use session::command_with;
 use session_start::start;
-use tally::Tally;
-
-// An answer as a number: the word, and behind it the value.
-pub fn said(after: Counted) -> u64 {
-    let o = after.outcome;
-    let a = o.answer;
-    word_of(a) as u64 * 65536 + value_of(a, o.key) as u64
-}
 
 // After a command on both: compared and counted.
-fn settle(c: &mut [u64], sheet: &[u8], s: &[u64], after: Counted, reply: u64, seed: u64, i: u64) {
-    let ours = said(after);
-    let what = differs(after, ours, reply, s, byte(sheet, 2) as usize);
+fn settle(
+    c: &mut [u64],
+    sheet: &[u8],
+    s: &[u64],
+    after: Record,
+    h: &[u64; HEARD],
+    reply: u64,
+    seed: u64,
+    i: u64,
+) {
+    let what = differs(after, h, reply, s, byte(sheet, 2) as usize);
     count_command(c, sheet, s, reply);
     if what != 0 {
-        differing(c, seed, i % 65536 + 1, ours, reply, what);
+        differing(c, seed, i % 65536 + 1, h[SAID], reply, what);
     }
 }
 
-// The customer's call with a lent tally.
-fn commanded(p: Counted, sheet: &[u8], bytes: &[u8]) -> Counted {
-    let o = p.outcome;
-    let r = o.session;
-    command_with(r, sheet, bytes, p.tally)
-}
-
-// One command's bytes, given to both.
+// One command's bytes, given to both; the record after it.
 pub fn given(
-    p: Counted,
+    r: Record,
+    h: &mut [u64; HEARD],
     c: &mut [u64],
     sheet: &[u8],
     s: &mut [u64],
     bytes: &[u8],
     seed: u64,
     i: u64,
-) -> Counted {
-    let after = commanded(p, sheet, bytes);
+) -> Record {
+    let after = commanded(r, sheet, bytes, h);
     let reply = oracle::command(sheet, bytes, s);
-    settle(c, sheet, s, after, reply, seed, i);
+    settle(c, sheet, s, after, h, reply, seed, i);
     after
 }
 
 fn turn(
-    p: Counted,
+    r: Record,
+    h: &mut [u64; HEARD],
     c: &mut [u64],
     sheet: &[u8],
     s: &mut [u64],
     g: u64,
     seed: u64,
     i: u64,
-) -> Counted {
-    let bytes = [command_byte(g, 0), command_byte(g, 1), command_byte(g, 2)];
+) -> Record {
+    let bytes = bytes_of(g);
     let n = command_length(g);
-    given(p, c, sheet, s, &bytes[0..n], seed, i)
+    given(r, h, c, sheet, s, &bytes[0..n], seed, i)
 }
 
 // The highest of two keys.
@@ -102,16 +94,11 @@ fn with_last_key(r: Record, key: u16) -> Record {
 }
 
 // The highest live key, and the highest given, are raised in our record; not where the key is 0.
-fn raised(p: Counted, key: u16) -> Counted {
+fn raised(r: Record, key: u16) -> Record {
     if key == 0 {
-        return p;
+        return r;
     }
-    let mut o = p.outcome;
-    let r = with_last_key(o.session, key);
-    o.session = r;
-    let mut next = p;
-    next.outcome = o;
-    next
+    with_last_key(r, key)
 }
 
 // Where letters are given, each is a command of a step that can always fire, as step 2 of sheet B is:
@@ -159,7 +146,8 @@ fn command_at(sheet: &[u8], s: &mut [u64], w: &[u64], letter: u8, seed: u64, i: 
 
 // The command of a turn, given to both.
 fn advanced(
-    p: Counted,
+    r: Record,
+    h: &mut [u64; HEARD],
     c: &mut [u64],
     sheet: &[u8],
     s: &mut [u64],
@@ -167,35 +155,22 @@ fn advanced(
     letter: u8,
     seed: u64,
     i: u64,
-) -> Counted {
+) -> Record {
     let key = raise_at(w, letter, seed, i);
-    let q = raised(p, key);
     oracle::raise(s, key as u64);
     let g = command_at(sheet, s, w, letter, seed, i);
-    turn(q, c, sheet, s, g, seed, i)
+    turn(raised(r, key), h, c, sheet, s, g, seed, i)
 }
 
-// A fresh record, and a tally that has one number in each count.
-pub fn begun(r: Record, tally: u16) -> Counted {
-    let counts = Tally {
-        fired: tally,
-        undone: tally,
-        refused: tally,
-    };
-    let outcome = Outcome {
-        answer: Answer::Refused(0),
-        key: Key(0),
-        session: r,
-    };
-    Counted {
-        outcome: outcome,
-        tally: counts,
-    }
+// No command yet, and a tally that has one number in each count.
+pub fn begun(tally: u64) -> [u64; HEARD] {
+    [0, 0, tally, tally, tally]
 }
 
 // All commands; the letters, where there are any, begin with a colon.
 fn play(
-    first: Counted,
+    first: Record,
+    h: &mut [u64; HEARD],
     c: &mut [u64],
     sheet: &[u8],
     s: &mut [u64],
@@ -204,10 +179,10 @@ fn play(
     seed: u64,
 ) {
     let n = get(w, 3) % 65536;
-    let mut p = first;
+    let mut r = first;
     let mut i: u64 = 0;
     while i < n {
-        p = advanced(p, c, sheet, s, w, byte(letters, i as usize + 1), seed, i);
+        r = advanced(r, h, c, sheet, s, w, byte(letters, i as usize + 1), seed, i);
         i += 1;
     }
 }
@@ -221,8 +196,8 @@ pub fn session(c: &mut [u64], sheet: &[u8], w: &[u64], letters: &[u8], seed: u64
         return;
     };
     let tally = get(w, 6) % 65536;
-    let p = begun(first.session, tally as u16);
+    let mut h = begun(tally);
     let mut s = oracle::zeros();
     oracle::begin(sheet, &mut s, tally);
-    play(p, c, sheet, &mut s, w, letters, seed);
+    play(first.session, &mut h, c, sheet, &mut s, w, letters, seed);
 }

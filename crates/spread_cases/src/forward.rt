@@ -8,7 +8,7 @@ use crate::judge::Led;
 use crate::judge::PLACE;
 use crate::judge::RUN_COMMAND;
 use crate::judge::go_on;
-use crate::judge::led_from;
+use crate::judge::led_to;
 use crate::judge::unless;
 use crate::relation::MOST;
 use crate::relation::key_of;
@@ -43,7 +43,7 @@ fn is_run(h: &[u64], i: usize, out: u64) -> bool {
 }
 
 fn run_without(first: Record, sheet: &[u8], h: &[u64], out: u64) -> Led {
-    let mut p = led_from(first);
+    let mut p = led_to(first, true);
     let mut i: usize = 0;
     while i < MOST {
         p = fired(p, sheet, step_of(h, i), is_run(h, i, out));

@@ -14,11 +14,12 @@ use crate::counts::judged;
 use crate::judge::ANSWER;
 use crate::judge::Led;
 use crate::judge::asked;
-use crate::judge::commanded;
-use crate::judge::led_from;
-use crate::judge::said;
+use crate::judge::led_to;
 use crate::judge::told_differs;
 use crate::judge::unless;
+use case_records::heard::HEARD;
+use case_records::heard::SAID;
+use case_records::heard::commanded;
 use case_tools::bytes::byte;
 use case_tools::bytes::put;
 use case_tools::bytes::put_all;
@@ -69,22 +70,12 @@ fn bytes_of(letter: u8) -> [u8; 3] {
 fn stepped(p: Led, sheet: &[u8], letter: u8) -> Led {
     let r = p.session;
     if b'j' < letter {
-        let other = edited(r, letter);
-        return Led {
-            session: other,
-            count: p.count,
-            holds: p.holds,
-        };
+        return led_to(edited(r, letter), p.holds);
     }
     let bytes = bytes_of(letter);
-    let done = commanded(r, sheet, &bytes);
-    let o = done.outcome;
-    let next = o.session;
-    Led {
-        session: next,
-        count: p.count,
-        holds: p.holds & (said(done) < reply(REFUSED, 0)),
-    }
+    let mut h = [0u64; HEARD];
+    let next = commanded(r, sheet, &bytes, &mut h);
+    led_to(next, p.holds & (h[SAID] < reply(REFUSED, 0)))
 }
 
 // All commands on a fresh session.
@@ -92,7 +83,7 @@ fn played(sheet: &[u8], letters: &[u8]) -> Led {
     let first = start(sheet);
     let r = first.session;
     let n = letters.len();
-    let mut p = led_from(r);
+    let mut p = led_to(r, true);
     let mut i: usize = 0;
     while i < n {
         p = stepped(p, sheet, byte(letters, i));

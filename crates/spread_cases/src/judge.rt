@@ -1,15 +1,13 @@
 // The call for the spread of a serial (document 02, T-08), held against the number and the parts that are expected; and commands by the
 // customer's call, held against the answer that is expected.
-use commands::value_of;
-use commands::word_of;
+use case_records::heard::HEARD;
+use case_records::heard::SAID;
+use case_records::heard::commanded;
 use net::Key;
 use net::MAX_BASES;
 use oracle::sets::only;
-use session::Counted;
 use session::Record;
-use session::command_with;
 use spread::SpreadAnswer;
-use tally::Tally;
 
 // What differs is a sum of these: the answer to a command; of the call the number, the parts; of the sets of firings that can be taken
 // back, that none is the least, the parts of the least; of the forward run a command, a place, a coupling; more live firings than can be
@@ -36,22 +34,6 @@ pub fn unless(same: bool, what: u64) -> u64 {
     if same { 0 } else { what }
 }
 
-pub fn commanded(r: Record, sheet: &[u8], bytes: &[u8]) -> Counted {
-    let none = Tally {
-        fired: 0,
-        undone: 0,
-        refused: 0,
-    };
-    command_with(r, sheet, bytes, none)
-}
-
-// An answer as one number: the word, 65,536 times, and the value.
-pub fn said(after: Counted) -> u64 {
-    let o = after.outcome;
-    let a = o.answer;
-    word_of(a) as u64 * 65536 + value_of(a, o.key) as u64
-}
-
 // A record, how many commands led to it, and whether each was answered as expected.
 pub struct Led {
     pub session: Record,
@@ -59,11 +41,11 @@ pub struct Led {
     pub holds: bool,
 }
 
-pub fn led_from(r: Record) -> Led {
+pub fn led_to(r: Record, holds: bool) -> Led {
     Led {
         session: r,
         count: 0,
-        holds: true,
+        holds: holds,
     }
 }
 
@@ -73,13 +55,11 @@ pub fn go_on(p: Led, sheet: &[u8], bytes: &[u8], reply: u64) -> Led {
         return p;
     }
     let r = p.session;
-    let done = commanded(r, sheet, bytes);
-    let o = done.outcome;
-    let next = o.session;
+    let mut h = [0u64; HEARD];
     Led {
-        session: next,
+        session: commanded(r, sheet, bytes, &mut h),
         count: p.count % 65536 + 1,
-        holds: said(done) == reply,
+        holds: h[SAID] == reply,
     }
 }
 

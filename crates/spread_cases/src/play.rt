@@ -6,11 +6,12 @@ use crate::counts::end_session;
 use crate::counts::judged;
 use crate::counts::note_uncoupled;
 use crate::judge::ANSWER;
-use crate::judge::commanded;
-use crate::judge::said;
 use crate::judge::unless;
 use crate::questions::ask;
-use generated::commands::command_byte;
+use case_records::heard::HEARD;
+use case_records::heard::SAID;
+use case_records::heard::commanded;
+use generated::commands::bytes_of;
 use generated::commands::command_of;
 use generated::random::below;
 use oracle::FIRED;
@@ -27,12 +28,12 @@ fn compared(c: &mut [u64], s: &[u64], ours: u64, reply: u64) {
 
 // A command, given to both engines; all have three bytes.
 fn turn(c: &mut [u64], r: Record, sheet: &[u8], s: &mut [u64], g: u64) -> Record {
-    let bytes = [command_byte(g, 0), command_byte(g, 1), command_byte(g, 2)];
+    let bytes = bytes_of(g);
     let reply = oracle::command(sheet, &bytes, s);
-    let done = commanded(r, sheet, &bytes);
-    compared(c, s, said(done), reply);
-    let o = done.outcome;
-    o.session
+    let mut h = [0u64; HEARD];
+    let next = commanded(r, sheet, &bytes, &mut h);
+    compared(c, s, h[SAID], reply);
+    next
 }
 
 // After so many commands, which are not the last, the questions are asked, or not yet.

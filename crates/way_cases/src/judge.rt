@@ -2,9 +2,10 @@
 // number, the count and every entry of the keys. Then the way is gone: each key is given as a command of kind 3, which is to take back
 // that firing, and in the end every part that the layout names is to be at its place.
 use crate::counts::judged;
+use case_records::heard;
+use case_records::heard::HEARD;
+use case_records::heard::SAID;
 use case_tools::bytes::byte;
-use commands::value_of;
-use commands::word_of;
 use generated::commands::undo_bytes;
 use net::Key;
 use net::MAX_BASES;
@@ -12,8 +13,6 @@ use net::MAX_LIVE;
 use oracle::UNDONE;
 use oracle::sets::get;
 use session::Record;
-use session::command_with;
-use tally::Tally;
 use way_back::WayAnswer;
 use way_back::WayBack;
 
@@ -44,23 +43,18 @@ pub struct Led {
 // An answer is the word, 65,536 times, and the value. Where any is expected but a refusal, it is this.
 pub const ACCEPTED: u64 = 131072;
 
-// A command by the customer's call, and the answer that is expected.
+fn is_met(said: u64, reply: u64) -> bool {
+    (said == reply) | ((reply == ACCEPTED) & (said < ACCEPTED))
+}
+
+// A command, and the answer that is expected.
 pub fn commanded(p: Led, sheet: &[u8], bytes: &[u8], reply: u64) -> Led {
-    let none = Tally {
-        fired: 0,
-        undone: 0,
-        refused: 0,
-    };
     let r = p.session;
-    let after = command_with(r, sheet, bytes, none);
-    let o = after.outcome;
-    let a = o.answer;
-    let s = o.session;
-    let said = word_of(a) as u64 * 65536 + value_of(a, o.key) as u64;
-    let met = (said == reply) | ((reply == ACCEPTED) & (said < ACCEPTED));
+    let mut h = [0u64; HEARD];
+    let next = heard::commanded(r, sheet, bytes, &mut h);
     Led {
-        session: s,
-        holds: p.holds & met,
+        session: next,
+        holds: p.holds & is_met(h[SAID], reply),
     }
 }
 

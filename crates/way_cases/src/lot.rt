@@ -8,7 +8,7 @@ use crate::judge::Led;
 use crate::judge::asked;
 use crate::judge::commanded;
 use case_tools::bytes::byte;
-use generated::commands::command_byte;
+use generated::commands::bytes_of;
 use generated::commands::command_length;
 use generated::counts::more;
 use generated::rows::part;
@@ -34,7 +34,7 @@ fn given(p: Led, sheet: &[u8], s: &mut [u64], bytes: &[u8]) -> Led {
 }
 
 fn turn(p: Led, sheet: &[u8], s: &mut [u64], g: u64) -> Led {
-    let bytes = [command_byte(g, 0), command_byte(g, 1), command_byte(g, 2)];
+    let bytes = bytes_of(g);
     let n = command_length(g);
     given(p, sheet, s, &bytes[0..n])
 }

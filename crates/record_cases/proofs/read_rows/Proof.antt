@@ -1,4 +1,4 @@
--- `record_cases::read_rows` meets its contract. The counter stays within its bound.
+-- `record_cases::read_rows` is safe and ends.
 -- Assumes nothing.
 use borrow.Author.Needs.{needs}
 use Prim.Native.Nat.{_-_, _≤_}
@@ -6,19 +6,16 @@ use Rattle.record_cases.proofs.read_rows.Statement.{statement}
 use Rattle.record_cases.proofs.read_rows.Tie as tie
 
 abbrev Inv-loop : tie.InvT-loop
-Inv-loop all text c₀ n at₀ c at = at ≤ n
+Inv-loop all text h₀ c₀ r₀ own₀ n at₀ h c r own at = at ≤ n
 
 abbrev μ-loop : tie.MeasureT-loop
-μ-loop all text c₀ n at₀ c at = n - at
+μ-loop all text h₀ c₀ r₀ own₀ n at₀ h c r own at = n - at
 
 sheet-at-requires : tie.Need-sheet-at-requires Inv-loop μ-loop
 sheet-at-requires c κs = search needs
 
-start-requires : tie.Need-start-requires Inv-loop μ-loop
-start-requires c κs = search needs
-
-tally-of-requires : tie.Need-tally-of-requires Inv-loop μ-loop
-tally-of-requires c κs = search needs
+begun-requires : tie.Need-begun-requires Inv-loop μ-loop
+begun-requires c κs = search needs
 
 loop-holds : tie.Need-loop-holds Inv-loop μ-loop
 loop-holds c = search needs
@@ -31,6 +28,12 @@ part-requires c κs = search needs
 
 read-row-requires : tie.Need-read-row-requires Inv-loop μ-loop
 read-row-requires c κs = search needs
+
+array-read-own-after : tie.Need-array-read-own-after Inv-loop μ-loop
+array-read-own-after c = search needs
+
+own-after-requires : tie.Need-own-after-requires Inv-loop μ-loop
+own-after-requires c κs = search needs
 
 returns : tie.Need-returns Inv-loop μ-loop
 returns c = search needs
@@ -54,12 +57,13 @@ read-rows-spec =
     Inv-loop
     μ-loop
     sheet-at-requires
-    start-requires
-    tally-of-requires
+    begun-requires
     loop-holds
     find-requires
     part-requires
     read-row-requires
+    array-read-own-after
+    own-after-requires
     returns
     after-requires
     loop-less

@@ -2,16 +2,16 @@
 -- Assumes nothing.
 use borrow.Author.Needs.{needs}
 use mathlib.Core.Path.{_≡_}
-use Prim.Native.Nat.{_-_}
+use Prim.Native.Nat.{_-_, _≤_}
 use lib.ListN.{length}
 use Rattle.session_cases.proofs.blocks.steps.Statement.{statement}
 use Rattle.session_cases.proofs.blocks.steps.Tie as tie
 
 abbrev Inv-loop : tie.InvT-loop
-Inv-loop c₀ sheet s₀ block₀ answers₀ seed n p₀ i₀ c s block answers p i = (length c ≡ length c₀) × (length s ≡ length s₀) × (length block ≡ length block₀) × (length answers ≡ length answers₀)
+Inv-loop h₀ c₀ sheet s₀ block₀ answers₀ seed n r₀ i₀ h c s block answers r i = (n ≤ 1000) × (length c ≡ length c₀) × (length s ≡ length s₀) × (length block ≡ length block₀) × (length answers ≡ length answers₀)
 
 abbrev μ-loop : tie.MeasureT-loop
-μ-loop c₀ sheet s₀ block₀ answers₀ seed n p₀ i₀ c s block answers p i = n - i
+μ-loop h₀ c₀ sheet s₀ block₀ answers₀ seed n r₀ i₀ h c s block answers r i = n - i
 
 loop-holds : tie.Need-loop-holds Inv-loop μ-loop
 loop-holds c = search needs

@@ -8,10 +8,10 @@ use Rattle.session_cases.proofs.play.play.Statement.{statement}
 use Rattle.session_cases.proofs.play.play.Tie as tie
 
 abbrev Inv-loop : tie.InvT-loop
-Inv-loop c₀ sheet s₀ w letters seed n p₀ i₀ c s p i = (i ≤ n) × (length c ≡ length c₀) × (length s ≡ length s₀)
+Inv-loop h₀ c₀ sheet s₀ w letters seed n r₀ i₀ h c s r i = (i ≤ n) × (length c ≡ length c₀) × (length s ≡ length s₀)
 
 abbrev μ-loop : tie.MeasureT-loop
-μ-loop c₀ sheet s₀ w letters seed n p₀ i₀ c s p i = n - i
+μ-loop h₀ c₀ sheet s₀ w letters seed n r₀ i₀ h c s r i = n - i
 
 get-requires : tie.Need-get-requires Inv-loop μ-loop
 get-requires c κs = search needs

@@ -11,8 +11,8 @@ Inv-loop sheet h out p₀ i₀ p i = Unit {0}
 abbrev μ-loop : tie.MeasureT-loop
 μ-loop sheet h out p₀ i₀ p i = 64 - i
 
-led-from-requires : tie.Need-led-from-requires Inv-loop μ-loop
-led-from-requires c κs = search needs
+led-to-requires : tie.Need-led-to-requires Inv-loop μ-loop
+led-to-requires c κs = search needs
 
 loop-holds : tie.Need-loop-holds Inv-loop μ-loop
 loop-holds c = search needs
@@ -44,7 +44,7 @@ run-without-spec =
     (tie.spec
     Inv-loop
     μ-loop
-    led-from-requires
+    led-to-requires
     loop-holds
     step-of-requires
     is-run-requires

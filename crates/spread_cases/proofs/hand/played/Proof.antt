@@ -14,8 +14,8 @@ abbrev μ-loop : tie.MeasureT-loop
 start-requires : tie.Need-start-requires Inv-loop μ-loop
 start-requires c κs = search needs
 
-led-from-requires : tie.Need-led-from-requires Inv-loop μ-loop
-led-from-requires c κs = search needs
+led-to-requires : tie.Need-led-to-requires Inv-loop μ-loop
+led-to-requires c κs = search needs
 
 loop-holds : tie.Need-loop-holds Inv-loop μ-loop
 loop-holds c = search needs
@@ -45,7 +45,7 @@ played-spec =
     Inv-loop
     μ-loop
     start-requires
-    led-from-requires
+    led-to-requires
     loop-holds
     byte-requires
     stepped-requires

@@ -1,9 +1,9 @@
--- `same_record::same_bases` is safe and ends. The counter stays within its bound.
+-- `case_records::same_bases` is safe and ends. The counter stays within its bound.
 -- Assumes nothing.
 use borrow.Author.Needs.{needs}
 use Prim.Native.Nat.{_-_, _≤_}
-use Rattle.same_record.proofs.same_bases.Statement.{statement}
-use Rattle.same_record.proofs.same_bases.Tie as tie
+use Rattle.case_records.proofs.same_bases.Statement.{statement}
+use Rattle.case_records.proofs.same_bases.Tie as tie
 
 abbrev Inv-loop : tie.InvT-loop
 Inv-loop places others movers again ok₀ i₀ ok i = i ≤ 64

@@ -1,15 +1,15 @@
--- `record_cases::each_tried` meets its contract. The bound stays.
+-- `record_cases::each_given` is safe and ends.
 -- Assumes nothing.
 use borrow.Author.Needs.{needs}
 use Prim.Native.Nat.{_-_, _≤_}
-use Rattle.record_cases.proofs.each_tried.Statement.{statement}
-use Rattle.record_cases.proofs.each_tried.Tie as tie
+use Rattle.record_cases.proofs.each_given.Statement.{statement}
+use Rattle.record_cases.proofs.each_given.Tie as tie
 
 abbrev Inv-loop : tie.InvT-loop
-Inv-loop first all w r to c₀ i₀ c i = to ≤ 65536
+Inv-loop h₀ c₀ sheet command w to r₀ key₀ h c r key = to ≤ 65536
 
 abbrev μ-loop : tie.MeasureT-loop
-μ-loop first all w r to c₀ i₀ c i = to - i
+μ-loop h₀ c₀ sheet command w to r₀ key₀ h c r key = to - key
 
 get-requires : tie.Need-get-requires Inv-loop μ-loop
 get-requires c κs = search needs
@@ -23,11 +23,14 @@ get-requires-2 c κs = search needs
 loop-holds : tie.Need-loop-holds Inv-loop μ-loop
 loop-holds c = search needs
 
-tried-requires : tie.Need-tried-requires Inv-loop μ-loop
-tried-requires c κs = search needs
+get-requires-3 : tie.Need-get-requires-3 Inv-loop μ-loop
+get-requires-3 c κs = search needs
 
-add-i : tie.Need-add-i Inv-loop μ-loop
-add-i c = search needs
+given-requires : tie.Need-given-requires Inv-loop μ-loop
+given-requires c κs = search needs
+
+add-key : tie.Need-add-key Inv-loop μ-loop
+add-key c = search needs
 
 loop-less : tie.Need-loop-less Inv-loop μ-loop
 loop-less c = search needs
@@ -35,14 +38,11 @@ loop-less c = search needs
 loop-again : tie.Need-loop-again Inv-loop μ-loop
 loop-again c = search needs
 
-with-record-requires : tie.Need-with-record-requires Inv-loop μ-loop
-with-record-requires c κs = search needs
-
 returns : tie.Need-returns Inv-loop μ-loop
 returns c = search needs
 
-pub each-tried-spec : {M : Type 1} → statement M
-each-tried-spec =
+pub each-given-spec : {M : Type 1} → statement M
+each-given-spec =
     tie.close
     (tie.spec
     Inv-loop
@@ -51,9 +51,9 @@ each-tried-spec =
     add-to
     get-requires-2
     loop-holds
-    tried-requires
-    add-i
+    get-requires-3
+    given-requires
+    add-key
     loop-less
     loop-again
-    with-record-requires
     returns)

@@ -1,5 +1,7 @@
-// Whether two session records are the same in every entry, used or not, for the programs of cases.
-// A refused command has to hand back the very record.
+// Records in the programs of cases: commands by the customer's call (heard), and whether two records are the same in every entry,
+// used or not. A refused command has to hand back the very record.
+pub mod heard;
+
 use firings::Firings;
 use marking::Marking;
 use net::MAX_BASES;

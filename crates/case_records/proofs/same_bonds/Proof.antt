@@ -1,15 +1,15 @@
--- `same_record::same_firings` meets its contract. The counter stays within its bound.
+-- `case_records::same_bonds` is safe and ends. The counter stays within its bound.
 -- Assumes nothing.
 use borrow.Author.Needs.{needs}
 use Prim.Native.Nat.{_-_, _≤_}
-use Rattle.same_record.proofs.same_firings.Statement.{statement}
-use Rattle.same_record.proofs.same_firings.Tie as tie
+use Rattle.case_records.proofs.same_bonds.Statement.{statement}
+use Rattle.case_records.proofs.same_bonds.Tie as tie
 
 abbrev Inv-loop : tie.InvT-loop
-Inv-loop a b ok₀ i₀ ok i = i ≤ 256
+Inv-loop a b ok₀ i₀ ok i = i ≤ 2016
 
 abbrev μ-loop : tie.MeasureT-loop
-μ-loop a b ok₀ i₀ ok i = 256 - i
+μ-loop a b ok₀ i₀ ok i = 2016 - i
 
 loop-holds : tie.Need-loop-holds Inv-loop μ-loop
 loop-holds c = search needs
@@ -20,29 +20,11 @@ element-copy-out-ok c = search needs
 element-copy-out-ok-2 : tie.Need-element-copy-out-ok-2 Inv-loop μ-loop
 element-copy-out-ok-2 c = search needs
 
-mul-ok : tie.Need-mul-ok Inv-loop μ-loop
-mul-ok c = search needs
-
 element-copy-out-ok-3 : tie.Need-element-copy-out-ok-3 Inv-loop μ-loop
 element-copy-out-ok-3 c = search needs
 
-mul-ok-2 : tie.Need-mul-ok-2 Inv-loop μ-loop
-mul-ok-2 c = search needs
-
 element-copy-out-ok-4 : tie.Need-element-copy-out-ok-4 Inv-loop μ-loop
 element-copy-out-ok-4 c = search needs
-
-mul-ok-3 : tie.Need-mul-ok-3 Inv-loop μ-loop
-mul-ok-3 c = search needs
-
-element-copy-out-ok-5 : tie.Need-element-copy-out-ok-5 Inv-loop μ-loop
-element-copy-out-ok-5 c = search needs
-
-mul-ok-4 : tie.Need-mul-ok-4 Inv-loop μ-loop
-mul-ok-4 c = search needs
-
-element-copy-out-ok-6 : tie.Need-element-copy-out-ok-6 Inv-loop μ-loop
-element-copy-out-ok-6 c = search needs
 
 add-i : tie.Need-add-i Inv-loop μ-loop
 add-i c = search needs
@@ -56,8 +38,8 @@ loop-again c = search needs
 returns : tie.Need-returns Inv-loop μ-loop
 returns c = search needs
 
-pub same-firings-spec : {M : Type 1} → statement M
-same-firings-spec =
+pub same-bonds-spec : {M : Type 1} → statement M
+same-bonds-spec =
     tie.close
     (tie.spec
     Inv-loop
@@ -65,14 +47,8 @@ same-firings-spec =
     loop-holds
     element-copy-out-ok
     element-copy-out-ok-2
-    mul-ok
     element-copy-out-ok-3
-    mul-ok-2
     element-copy-out-ok-4
-    mul-ok-3
-    element-copy-out-ok-5
-    mul-ok-4
-    element-copy-out-ok-6
     add-i
     loop-less
     loop-again
