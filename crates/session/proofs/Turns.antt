@@ -1,41 +1,33 @@
--- The fold over a list of commands, one command more at a time, as a loop over a position does it.
--- Assumes nothing.
-use mathlib.Core.Path.{_≡_, refl, sym, _∙_, ap, subst}
-use mathlib.Core.List.{List, [], _∷_, _++_, map}
-use Prim.Native.Nat.{ℕ, suc, _+_}
-use native.Mathlib.Nat.{zero-add}
-use lib.ListN.{length, set}
+-- A list of commands on a sound record is the list on the journal that it holds; its length, and that it ends in a sound record.
+-- Assumes a sound record on an accepted sheet where it says so.
+use mathlib.Core.Path.{_≡_, refl, sym, _∙_, ap}
+use mathlib.Core.Bool.{true}
+use mathlib.Core.List.{List, [], _∷_, map}
+use Prim.Native.Nat.{ℕ, suc}
+use lib.ListN.{length}
 use lib.Seq.{sets}
-use Rattle.net.specs.Tests.{table}
-use Rattle.net.proofs.Tables.{length-table, table-more}
-use Rattle.text.proofs.Writes.{sets-snoc}
-use Rattle.command_list.specs.Commands.{howMany, commandAt, commandsIn}
+use Rattle.net.specs.Checks.{clear}
+use Rattle.net.specs.Journal as J
+use Rattle.net.specs.Journal.{Journal, act, answers}
+use Rattle.net.proofs.Journal.{Held, act-held}
+use Rattle.format.specs.NetOf.{netOf}
+use Rattle.sheet.specs.Checks.{sheetChecks}
+use Rattle.sheet.proofs.Accepted.{promised}
+use Rattle.command_list.specs.Commands.{commandsIn}
+use Rattle.tally.specs.Counts.{countedOf}
 use Rattle.tally.specs.declared.Tally.{Tally}
-use Rattle.session.specs.declared.Record.{Record}
-use Rattle.session.specs.Records.{Sound}
-use Rattle.session.specs.Commands.{Result, commandOf}
 use Rattle.commands.specs.Answers.{wordOf, valueOf}
-use Rattle.session.specs.Runs.{Answered, Session, runOf}
-use Rattle.session.proofs.Stays.{command-sound}
-use Rattle.session.specs.declared.run.Stepped.{Stepped}
-use Rattle.session.specs.Lists.{wordsOf, valuesOf, StepGives, ranTo, ranOf, RunGives}
-
--- the answer that a list of them keeps
-abbrev kept : Result → Answered
-kept y = record { answer = y .outcome .answer; key = y .outcome .key }
-
--- a session after one command more
-abbrev pub more : List ℕ → Session → List ℕ → Session
-more s y c =
-    let z : Result = commandOf s (y .session) (y .tally) c in
-    record { session = z .outcome .session; tally = z .tally; answers = y .answers ++ (kept z ∷ []) }
-
-pub run-more : (s : List ℕ) (cs : List (List ℕ)) (c : List ℕ) (r : Record) (t : Tally) → runOf s (cs ++ (c ∷ [])) r t ≡ more s (runOf s cs r t) c
-run-more s [] c r t = refl
-run-more s (d ∷ cs) c r t =
-    let y : Result = commandOf s r t d in
-    let ih = run-more s cs c (y .outcome .session) (y .tally) in
-    λ i. record { session = ih i .session; tally = ih i .tally; answers = kept y ∷ ih i .answers }
+use Rattle.runs.specs.declared.Held as Struct
+use Rattle.runs.specs.Running.{saidWord, saidValue, talliedOf, RanOn}
+use Rattle.session.specs.declared.Record.{Record}
+use Rattle.session.specs.declared.Outcome.{Outcome}
+use Rattle.session.specs.Records.{heldIn, recordOf, Sound}
+use Rattle.session.specs.Lent.{recordWith}
+use Rattle.session.specs.Commands.{Result, outcomeOf, commandOf}
+use Rattle.session.specs.Runs.{Answered, answered, Session, runOf}
+use Rattle.session.specs.Lists.{wordsOf, valuesOf, ranOf, RunGives}
+use Rattle.session.proofs.Steps.{step, outcome-is, follows}
+use Rattle.session.proofs.Stays.{command-sound, holds, laid-out}
 
 pub run-length : (s : List ℕ) (cs : List (List ℕ)) (r : Record) (t : Tally) → length (runOf s cs r t .answers) ≡ length cs
 run-length s [] r t = refl
@@ -50,69 +42,54 @@ pub ran-sound : (s b : List ℕ) (r : Record) (t : Tally) → Sound s r → Soun
 unfolding ranOf
 ran-sound s b r t S = run-sound s (commandsIn b) r t S
 
--- ---- lists of numbers
-
 pub length-map : {A : Type 0} (f : A → ℕ) (l : List A) → length (map f l) ≡ length l
 length-map f [] = refl
 length-map f (x ∷ l) = ap suc (length-map f l)
 
-map-snoc : {A : Type 0} (f : A → ℕ) (l : List A) (x : A) → map f (l ++ (x ∷ [])) ≡ map f l ++ (f x ∷ [])
-map-snoc f [] x = refl
-map-snoc f (y ∷ l) x = λ i. f y ∷ map-snoc f l x i
+-- ---- the tally of a list
 
--- one number more, stored after those of a list
-stored : {A : Type 0} (f : A → ℕ) (l : List A) (x : A) (b : List ℕ) (i : ℕ) → length l ≡ i → set (sets b 0 (map f l)) i (f x) ≡ sets b 0 (map f (l ++ (x ∷ [])))
-stored f l x b i e =
-    ap (λ (k : ℕ). set (sets b 0 (map f l)) k (f x)) (sym (zero-add (length (map f l)) ∙ length-map f l ∙ e)) ∙ sets-snoc (map f l) b 0 (f x) ∙ ap (sets b 0) (sym (map-snoc f l x))
+counted-is : (s : List ℕ) (r : Record) (t : Tally) (c : List ℕ) → commandOf s r t c .tally ≡ countedOf t (wordOf (commandOf s r t c .outcome .answer))
+unfolding commandOf
+counted-is s r t c = refl
 
--- ---- the run to a position
+tally-follows : (s : List ℕ) (accepted : clear (sheetChecks s) ≡ true) (cs : List (List ℕ)) (j : Journal) (t : Tally) → Held (netOf s) j
+    → runOf s cs (recordOf j) t .tally ≡ talliedOf t (answers (netOf s) cs j)
+tally-follows s accepted [] j t H = refl
+tally-follows s accepted (c ∷ cs) j t H =
+    let y : Result = commandOf s (recordOf j) t c in
+    let e : y .outcome ≡ outcomeOf (act (netOf s) j c) = outcome-is s (recordOf j) t c ∙ step s accepted j c H in
+    let n : y .tally ≡ countedOf t (saidWord (act (netOf s) j c .answer)) = counted-is s (recordOf j) t c ∙ ap (λ (o : Outcome). countedOf t (wordOf (o .answer))) e in
+    (λ i. runOf s cs (e i .session) (n i) .tally) ∙ tally-follows s accepted cs (act (netOf s) j c .journal) _ (act-held (netOf s) (promised s accepted .rule) j c H)
 
-module _ (s b : List ℕ) (r : Record) (t : Tally) where
-  to-more : (i : ℕ) → ranTo s b r t (i + 1) ≡ more s (ranTo s b r t i) (commandAt b i)
-  unfolding ranTo
-  to-more i = ap (λ (cs : List (List ℕ)). runOf s cs r t) (table-more i (commandAt b)) ∙ run-more s (table i (commandAt b)) (commandAt b i) r t
+-- ---- the answers as numbers
 
-  to-length : (i : ℕ) → length (ranTo s b r t i .answers) ≡ i
-  unfolding ranTo
-  to-length i = run-length s (table i (commandAt b)) r t ∙ length-table i (commandAt b)
+said-words : (as₀ : List J.Answer) → map saidWord as₀ ≡ map (λ (a : Answered). wordOf (a .answer)) (map answered as₀)
+said-words [] = refl
+said-words (a ∷ as₀) = ap (λ (ns : List ℕ). saidWord a ∷ ns) (said-words as₀)
 
-  to-all : ranTo s b r t (howMany b) ≡ ranOf s b r t
-  unfolding ranTo ranOf
-  to-all = refl
+said-values : (as₀ : List J.Answer) → map saidValue as₀ ≡ map (λ (a : Answered). valueOf (a .answer) (a .key)) (map answered as₀)
+said-values [] = refl
+said-values (a ∷ as₀) = ap (λ (ns : List ℕ). saidValue a ∷ ns) (said-values as₀)
 
-  -- what a loop has in hand before command i: the record, the tally, and the two lists
-  abbrev pub Upto : List ℕ → List ℕ → ℕ → Record → Tally → List ℕ → List ℕ → Type 0
-  Upto words₀ values₀ i session tally words values = RunGives (ranTo s b r t i) words₀ values₀ session tally words values
+-- ---- the list on what the record holds
 
-  module _ (words₀ values₀ : List ℕ) where
-    pub upto-none : Upto words₀ values₀ 0 r t words₀ values₀
-    unfolding ranTo
-    upto-none = record { session-is = refl; tally-is = refl; words-are = refl; values-are = refl }
+module _ (s b : List ℕ) (r : Record) (t : Tally) (S : Sound s r) where
+  on-journal : ranOf s b r t ≡ runOf s (commandsIn b) (recordOf (heldIn s r)) t
+  unfolding ranOf
+  on-journal = ap (λ (x : Record). runOf s (commandsIn b) x t) (laid-out s r S)
 
-    -- one command more
-    pub upto-more : (i : ℕ) (session : Record) (tally : Tally) (words values : List ℕ) → Upto words₀ values₀ i session tally words values
-        → (c : List ℕ) → c ≡ commandAt b i → (x : Stepped) (next : Record) → StepGives (commandOf s session tally c) x next
-        → Upto words₀ values₀ (i + 1) next (x .tally) (set words i (x .word)) (set values i (x .value))
-    upto-more i session tally words values u c e x next g =
-        let y : Session = ranTo s b r t i in
-        let z : Result = commandOf s (y .session) (y .tally) (commandAt b i) in
-        let m : more s y (commandAt b i) ≡ ranTo s b r t (i + 1) = sym (to-more i) in
-        let same : commandOf s session tally c ≡ z = λ k. commandOf s (u .session-is k) (u .tally-is k) (e k) in
-        let w : x .word ≡ wordOf (z .outcome .answer) = g .word-is ∙ ap (λ (v : Result). wordOf (v .outcome .answer)) same in
-        let v : x .value ≡ valueOf (z .outcome .answer) (z .outcome .key) = g .value-is ∙ ap (λ (v : Result). valueOf (v .outcome .answer) (v .outcome .key)) same in
-        record {
-          session-is = g .session-is ∙ ap (λ (v : Result). v .outcome .session) same ∙ ap (λ (v : Session). v .session) m;
-          tally-is = g .tally-is ∙ ap (λ (v : Result). v .tally) same ∙ ap (λ (v : Session). v .tally) m;
-          words-are =
-              (λ k. set (u .words-are k) i (w k)) ∙ stored (λ (a : Answered). wordOf (a .answer)) (y .answers) (kept z) words₀ i (to-length i)
-              ∙ ap (λ (v : Session). sets words₀ 0 (wordsOf v)) m;
-          values-are =
-              (λ k. set (u .values-are k) i (v k)) ∙ stored (λ (a : Answered). valueOf (a .answer) (a .key)) (y .answers) (kept z) values₀ i (to-length i)
-              ∙ ap (λ (v : Session). sets values₀ 0 (valuesOf v)) m;
-        }
-
-    -- all commands
-    pub upto-all : (i : ℕ) (session : Record) (tally : Tally) (words values : List ℕ) → i ≡ howMany b → Upto words₀ values₀ i session tally words values
-        → RunGives (ranOf s b r t) words₀ values₀ session tally words values
-    upto-all i session tally words values e u =
-        subst (λ (y : Session). RunGives y words₀ values₀ session tally words values) (ap (ranTo s b r t) e ∙ to-all) u
+  pub run-gives : (words₀ values₀ : List ℕ) (h : Struct.Held) (u : Tally) (words values : List ℕ)
+      → RanOn (netOf s) (heldIn s r) (commandsIn b) t words₀ values₀ h u words values → (x : Record) → x ≡ recordWith h → RunGives (ranOf s b r t) words₀ values₀ x u words values
+  unfolding recordOf
+  run-gives words₀ values₀ h u words values R x e =
+      let cs : List (List ℕ) = commandsIn b in
+      let F = follows s (S .passed .accepted) cs (heldIn s r) t (holds s r S) in
+      let back = sym on-journal in
+      let said : List J.Answer = answers (netOf s) cs (heldIn s r) in
+      let all : map answered said ≡ ranOf s b r t .answers = sym (F .answers) ∙ ap (λ (y : Session). y .answers) back in
+      record {
+        session-is = e ∙ ap recordWith (R .held-is) ∙ sym (F .session) ∙ ap (λ (y : Session). y .session) back;
+        tally-is = R .tally-is ∙ sym (tally-follows s (S .passed .accepted) cs (heldIn s r) t (holds s r S)) ∙ ap (λ (y : Session). y .tally) back;
+        words-are = R .words-are ∙ ap (sets words₀ 0) (said-words said ∙ ap (map (λ (a : Answered). wordOf (a .answer))) all);
+        values-are = R .values-are ∙ ap (sets values₀ 0) (said-values said ∙ ap (map (λ (a : Answered). valueOf (a .answer) (a .key))) all);
+      }

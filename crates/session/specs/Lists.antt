@@ -6,15 +6,13 @@ use mathlib.Core.List.{List, map}
 use lib.Dec.{eqb, leb}
 use Prim.Native.Nat.{ℕ}
 use lib.Seq.{sets}
-use Rattle.net.specs.Tests.{pick, table}
-use Rattle.command_list.specs.Commands.{commandAt, commandsIn}
+use Rattle.net.specs.Tests.{pick}
+use Rattle.command_list.specs.Commands.{commandsIn}
 use Rattle.tally.specs.declared.Tally.{Tally}
 use Rattle.session.specs.declared.Record.{Record}
 use Rattle.commands.specs.declared.Answer.{Answer}
-use Rattle.session.specs.Commands.{Result}
 use Rattle.commands.specs.Answers.{wordOf, valueOf, answerNumber}
 use Rattle.session.specs.Runs.{Answered, Session, runOf}
-use Rattle.session.specs.declared.run.Stepped.{Stepped}
 
 -- ---- The answers as numbers: each as its word and its value
 
@@ -28,19 +26,7 @@ valuesOf y = map (λ (a : Answered). valueOf (a .answer) (a .key)) (y .answers)
 abbrev pub lowRefusal : Answer → Bool
 lowRefusal a = pick (eqb (wordOf a) 2) (leb 11 (answerNumber a) && leb (answerNumber a) 21) true
 
--- What one command in place promises: the record that the arrays hold, the tally, and the answer and the key as word and
--- value are those of the definition.
-pub record StepGives (y : Result) (x : Stepped) (session : Record) : Type 0 where
-  pub session-is : session ≡ y .outcome .session
-  pub tally-is : x .tally ≡ y .tally
-  pub word-is : x .word ≡ wordOf (y .outcome .answer)
-  pub value-is : x .value ≡ valueOf (y .outcome .answer) (y .outcome .key)
-
 -- ---- The run
-
--- the session after the first i commands
-unfoldable pub ranTo : List ℕ → List ℕ → Record → Tally → ℕ → Session
-ranTo s b r t i = runOf s (table i (commandAt b)) r t
 
 -- the session after them all
 unfoldable pub ranOf : List ℕ → List ℕ → Record → Tally → Session

@@ -12,15 +12,16 @@ ghost use mathlib.Core.Path.{_≡_};
 ghost use mathlib.Core.List.{[]};
 ghost use Rattle.net.specs.Checks.{first};
 ghost use Rattle.session.specs.Records.{Sound};
+ghost use Rattle.session.specs.Lent.{recordWith};
 ghost use Rattle.session.specs.Commands.{refusal, performOf, recordChecks, outcomeFor, Commanded};
 use commands::Answer;
-use commands::in_place::perform_in;
 use commands::word_of;
 use firings::Firings;
-use labels::label_in;
 use marking::Marking;
 use net::Key;
 use net::MAX_BASES;
+use runs::Held;
+use runs::perform_on;
 use sound::record_refusal;
 use tally::Tally;
 
@@ -55,6 +56,22 @@ pub struct Start {
 pub struct Counted {
     pub outcome: Outcome,
     pub tally: Tally,
+}
+
+// A record that holds this.
+fn record_with(h: Held) -> Record
+    ensures { λ r. ⌜ r ≡ recordWith h ⌝ }
+{
+    let m = h.marking;
+    let f = h.firings;
+    let movers = h.movers;
+    let given = h.given;
+    Record {
+        marking: m,
+        firings: f,
+        movers: movers,
+        given: given,
+    }
 }
 
 impl Record {
@@ -92,62 +109,22 @@ impl Record {
         }
     }
 
-    // A command on a sound record and an accepted sheet: the record's arrays are lent, and put together again.
-    // `answer` has seen that the record is sound.
+    // A command on a sound record and an accepted sheet. `answer` has seen that the record is sound.
     fn perform(self, sheet: &[u8], bytes: &[u8]) -> Outcome
         requires { ⌜ Sound (now sheet) self ⌝ }
         ensures { λ r. ⌜ r ≡ performOf (now (sheet .entry)) self (now (bytes .entry)) ⌝ }
     {
         let m = self.marking;
-        let mut places = m.places;
-        let mut lo = m.lo;
-        let mut hi = m.hi;
         let f = self.firings;
-        let mut transitions = f.transitions;
-        let mut keys = f.keys;
-        let mut moved = f.moved;
-        let mut movers = self.movers;
-        let mut l = [0u8; MAX_BASES];
-        let mut members = [0u64; MAX_BASES];
-        label_in(&mut l, &mut members, &lo, &hi, m.count);
-        let done = perform_in(
-            sheet,
-            bytes,
-            &mut places,
-            m.count,
-            &mut lo,
-            &mut hi,
-            f.live,
-            &mut transitions,
-            &mut keys,
-            &mut moved,
-            &mut movers,
-            &mut l,
-            &mut members,
-            self.given,
-        );
+        let movers = self.movers;
+        let done = perform_on(sheet, bytes, m, f, movers, self.given);
         let answer = done.answer;
         let key = done.key;
-        let given = done.given;
+        let held = done.held;
         Outcome {
             answer: answer,
             key: key,
-            session: Record {
-                marking: Marking {
-                    places: places,
-                    count: done.count,
-                    lo: lo,
-                    hi: hi,
-                },
-                firings: Firings {
-                    live: done.live,
-                    transitions: transitions,
-                    keys: keys,
-                    moved: moved,
-                },
-                movers: movers,
-                given: given,
-            },
+            session: record_with(held),
         }
     }
 

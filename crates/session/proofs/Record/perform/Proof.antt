@@ -1,42 +1,23 @@
 -- `session::Record::perform` meets its contract.
 -- Assumes nothing but the laws of proofs/.
 use borrow.Author.Needs.{needs}
-use Rattle.sound.proofs.Lines.{placed-fits, placed-ends}
-use Rattle.sound.proofs.Holds.{placed}
+use mathlib.Core.Path.{_∙_}
 use Rattle.session.proofs.Stays.{did-performs}
-use Rattle.marking.specs.Held.{holding}
-use Rattle.firings.specs.Lines.{lying}
 use Rattle.session.proofs.Record.perform.Statement.{statement}
 use Rattle.session.proofs.Record.perform.Tie as tie
 
-slice-aggregate-label-in : tie.Need-slice-aggregate-label-in
-slice-aggregate-label-in c = search needs
+perform-on-requires : tie.Need-perform-on-requires
+perform-on-requires c κs = search needs
 
-slice-aggregate-label-in-2 : tie.Need-slice-aggregate-label-in-2
-slice-aggregate-label-in-2 c = search needs
-
-label-in-requires : tie.Need-label-in-requires
-label-in-requires c κs =
-    let s : tie.Start = c .before .before .before .before .before .before .before .before .before .before .before .before .before .before .before in
-    let P = placed (s .args .sheet .now) (s .args .self .marking) (s .args .self .firings) (s .args .self .given) (s .pre .passed) in
-    let (lo, hi) = placed-fits (s .args .sheet .now) (s .args .self .marking) P in
-    ((search needs, lo, hi), placed-ends (s .args .sheet .now) (s .args .self .marking) P)
-
-perform-in-requires : tie.Need-perform-in-requires
-perform-in-requires c κs = search needs
+record-with-requires : tie.Need-record-with-requires
+record-with-requires c κs = search needs
 
 returns : tie.Need-returns
 returns c =
-    let s : tie.Start = c .before .before .before .before .before .before .before .before .before .before .before .before .before .before .before .before .before .before .before .before .before .before .before .before .before .before .before .before in
-    let p : tie.After-perform-in = c .before .before in
-    did-performs (s .args .sheet .now) (s .args .self) (s .pre) (s .args .bytes .now) (p .perform-in .result) (holding (p .perform-in .last .1 .1 .0) (p .perform-in .result .count) (p .perform-in .last .1 .1 .1 .1 .0) (p .perform-in .last .1 .1 .1 .1 .1 .0)) (lying (p .perform-in .result .live) (p .perform-in .last .1 .1 .1 .1 .1 .1 .1 .0) (p .perform-in .last .1 .1 .1 .1 .1 .1 .1 .1 .0) (p .perform-in .last .1 .1 .1 .1 .1 .1 .1 .1 .1 .0)) (p .perform-in .last .1 .1 .1 .1 .1 .1 .1 .1 .1 .1 .0) (p .perform-in .ensures .0)
+    let p : tie.After-perform-on = c .before .before .before in
+    let s : tie.Start = p .before .before .before .before .before .before in
+    (λ i. record { answer = p .perform-on .result .answer; key = p .perform-on .result .key; session = c .record-with .ensures i })
+    ∙ did-performs (s .args .sheet .now) (s .args .self) (s .pre) (s .args .bytes .now) (p .perform-on .result) (p .perform-on .ensures)
 
 pub perform-spec : {M : Type 1} → statement M
-perform-spec =
-    tie.close
-    (tie.spec
-    slice-aggregate-label-in
-    slice-aggregate-label-in-2
-    label-in-requires
-    perform-in-requires
-    returns)
+perform-spec = tie.close (tie.spec perform-on-requires record-with-requires returns)

@@ -1,15 +1,17 @@
--- `session::run::step_in` meets its contract.
+-- `runs::step_in` meets its contract.
 -- Assumes nothing but the laws of proofs/.
+use mathlib.Core.Path.{refl}
 use borrow.Author.Needs.{needs}
+use Rattle.net.specs.Journal.{act}
+use Rattle.format.specs.Parts.{basesOf}
+use Rattle.format.specs.NetOf.{netOf}
 use Rattle.marking.specs.declared.Marking.{Marking}
 use Rattle.marking.specs.Held.{holding}
 use Rattle.firings.specs.declared.Firings.{Firings}
 use Rattle.firings.specs.Lines.{lying}
-use Rattle.session.specs.Lent.{recordAt}
-use Rattle.session.specs.declared.Record.{Record}
-use Rattle.session.proofs.Stays.{did-performs, stepped}
-use Rattle.session.proofs.run.step_in.Statement.{statement}
-use Rattle.session.proofs.run.step_in.Tie as tie
+use Rattle.runs.proofs.Turns.{stepped}
+use Rattle.runs.proofs.step_in.Statement.{statement}
+use Rattle.runs.proofs.step_in.Tie as tie
 
 -- what the arrays hold after the command
 abbrev m : tie.After-perform-in → Marking
@@ -34,9 +36,7 @@ returns : tie.Need-returns
 returns c =
     let p : tie.After-perform-in = c .before .before .before .before .before in
     let s : tie.Start = p .before .before .before .before .before .before .before .before .before .before .before .before in
-    let r : Record = recordAt (s .args .places .now) (s .args .count) (s .args .lo .now) (s .args .hi .now) (s .args .live) (s .args .transitions .now) (s .args .keys .now) (s .args .moved .now) (s .args .movers .now) (s .args .given) in
-    let o = did-performs (s .args .sheet .now) r (s .pre .0) (s .args .bytes .now) (p .perform-in .result) (m p) (f p) (p .perform-in .last .1 .1 .1 .1 .1 .1 .1 .1 .1 .1 .0) (p .perform-in .ensures .0) in
-    (stepped (s .args .sheet .now) r (s .pre .0) (s .args .t) (s .args .bytes .now) _ o _ (c .before .before .word-of .ensures) (c .before .value-of .ensures .0) (c .counted .ensures), p .perform-in .ensures .1)
+    (stepped _ (p .perform-in .result) (m p) (f p) (p .perform-in .last .1 .1 .1 .1 .1 .1 .1 .1 .1 .1 .0) (p .perform-in .ensures .0) (s .args .t) _ (c .before .before .word-of .ensures) (c .before .value-of .ensures .0) (c .counted .ensures) refl, p .perform-in .ensures .1)
 
 pub step-in-spec : {M : Type 1} → statement M
 step-in-spec =

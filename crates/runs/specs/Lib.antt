@@ -1,0 +1,2 @@
+-- What commands do to what a record holds.
+pub mod Running
