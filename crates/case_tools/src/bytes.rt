@@ -24,8 +24,3 @@ pub fn put_all(buf: &mut [u8], at: usize, from: &[u8])
         i += 1;
     }
 }
-
-// One more; a count at 65,535 stays.
-pub fn one_more(n: u16) -> u16 {
-    if n < 65535 { n + 1 } else { n }
-}

@@ -14,7 +14,7 @@ pub fn made(kind: u64, number: u64, length: u64) -> u64 {
 }
 
 // Byte k of a command, and how many bytes are given.
-pub fn command_byte(g: u64, k: u64) -> u8 {
+fn command_byte(g: u64, k: u64) -> u8 {
     ((g >> (k % 4 * 8)) % 256) as u8
 }
 

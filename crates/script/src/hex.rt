@@ -68,7 +68,7 @@ fn end_pair(at: usize) -> Pair {
 }
 
 // The next two digits from a position on.
-pub fn hex_at(line: &[u8], at: usize) -> Pair {
+fn hex_at(line: &[u8], at: usize) -> Pair {
     if line.len() < at {
         return end_pair(at);
     }

@@ -15,7 +15,7 @@ use sheet_draft::read_sheet;
 use sheet_text::Line;
 
 // What was expected, by its line in the list of `print_slip`.
-pub const SHEET_LINE: u8 = 0;
+const SHEET_LINE: u8 = 0;
 
 const PLACES_ONCE: u8 = 1;
 
