@@ -37,6 +37,9 @@ use text::put_word;
 // How many commands are read, and the longest output: the room that `write_output` asks for.
 pub const MAX_COMMANDS: usize = 65535;
 
+// How many bytes they have.
+const COMMAND_BYTES: usize = 3 * MAX_COMMANDS;
+
 pub const MAX_OUTPUT: usize = 1630843;
 
 // At most so many bytes of a list, from a position on: those that are there.
@@ -66,7 +69,7 @@ fn commands_in<'a>(input: &'a [u8]) -> &'a [u8]
     ensures { λ r. ⌜ now r ≡ commandBytes (now (input .entry)) ⌝ }
 {
     let length = word_at(input, 0);
-    bytes_from(input, 2 + length, 3 * MAX_COMMANDS)
+    bytes_from(input, 2 + length, COMMAND_BYTES)
 }
 
 // The first n answers, numbered from 1. `put_session` sees to the room and to the values.
