@@ -1,5 +1,5 @@
-// The customer's call for a command, with what it gives as numbers in a lent array. The record alone goes by value: in a check a struct
-// costs as much where it is dead as where it is used.
+// The customer's call for a command, with what it gives as numbers in a lent array. The record alone goes by value.
+// One function for all programs of cases.
 use commands::value_of;
 use commands::word_of;
 use session::Counted;

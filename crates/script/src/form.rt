@@ -5,7 +5,7 @@ use forms::has_form;
 use forms::nth_number;
 use wording::part::between;
 
-// The forms, by their place in the list below: a blank line, the beginnings of a sheet and a session, a block's ends,
+// The forms by their places in the list of `whole_form`. A blank line; what begins a sheet, a session, a block; `hand in`.
 pub const BLANK: u8 = 0;
 
 pub const SHEET: u8 = 1;
@@ -16,19 +16,19 @@ pub const BLOCK: u8 = 3;
 
 pub const HAND_IN: u8 = 4;
 
-// commands of kinds 1, 2 and 3,
+// Commands of kinds 1 to 3: `fire`, `undo last` and `undo`.
 const FIRE: u8 = 5;
 
 pub const UNDO: u8 = 7;
 
-// questions: about the sheet with one to four bytes changed, or cut short, from 8 on; about the tally and the last refusal,
+// Questions about the sheet with one to four bytes changed, 8 to 11, and cut short, 12 and 13; about the tally; why a command was refused.
 pub const CUT: u8 = 12;
 
 pub const TALLY: u8 = 14;
 
 pub const WHY: u8 = 15;
 
-// about the record,
+// Questions about the record; 20 is `step of`.
 pub const WHERE: u8 = 16;
 
 pub const COUPLINGS: u8 = 17;
@@ -39,7 +39,7 @@ pub const MOVED: u8 = 19;
 
 pub const MOVERS: u8 = 21;
 
-// and by the customer's calls on it: what can come off, how far a firing spreads, the listing, a page and a row of it.
+// Questions by the customer's calls: what can come off, how far a firing spreads, the listing, a page; 27 is a row of one.
 pub const LAMP: u8 = 22;
 
 pub const LAMPS: u8 = 23;
@@ -50,6 +50,7 @@ pub const LISTING: u8 = 25;
 
 pub const PAGE: u8 = 26;
 
+// How many places there are.
 const FORMS: usize = 28;
 
 // Lines of which the beginning alone is a form, and all others.
