@@ -4,6 +4,7 @@ mod blocks;
 mod changed;
 mod command;
 pub mod desk;
+mod enter;
 mod exam;
 pub mod files;
 mod form;

@@ -10,7 +10,6 @@ use oracle::moved_at;
 use oracle::reader::arc_bases;
 use oracle::reader::count;
 use oracle::reader::in_bonds;
-use oracle::sets::get;
 use oracle::sets::less;
 use oracle::slot_of;
 use oracle::tally_at;
