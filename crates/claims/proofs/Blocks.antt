@@ -5,7 +5,7 @@ use mathlib.Core.Bool.{Bool, true, false, not, _&&_}
 use mathlib.Core.List.{List, [], _∷_, _++_}
 use Prim.Native.Nat.{ℕ, zero, suc, _≤_}
 use native.Mathlib.Omega.{arith}
-use lib.ListN.{length, take, drop}
+use lib.ListN.{length, take, drop, length-map}
 use lib.Seq.{sets}
 use borrow.Author.Tests.{not-true}
 use Rattle.net.specs.Tests.{pick}
@@ -25,7 +25,7 @@ use Rattle.session.specs.Runs.{Session, runOf}
 use Rattle.session.specs.Lists.{wordsOf, valuesOf, ranOf}
 use Rattle.session.specs.Block.{blockChecks, Handed, ranBlock, turnedAway, notRun, blockOf}
 use Rattle.session.specs.declared.Record.{Record}
-use Rattle.session.proofs.Turns.{length-map, run-length}
+use Rattle.session.proofs.Turns.{run-length}
 use Rattle.session.proofs.Blocks.{room}
 use Rattle.claims.specs.Blocks.{AsSingly, Blocks}
 use Rattle.claims.proofs.Records.{soundness}
@@ -75,8 +75,8 @@ module _ (s : List ℕ) (r : Record) (t : Tally) (b words values : List ℕ) whe
         one-each = many;
         session = ap (λ (y : Handed). y .outcome .session) e;
         tally = ap (λ (y : Handed). y .tally) e;
-        words-are = ap (λ (y : Handed). y .words) e ∙ front (wordsOf ran) words (length-map _ (ran .answers) ∙ many) (q .0);
-        values-are = ap (λ (y : Handed). y .values) e ∙ front (valuesOf ran) values (length-map _ (ran .answers) ∙ many) (q .1);
+        words-are = ap (λ (y : Handed). y .words) e ∙ front (wordsOf ran) words (length-map (ran .answers) _ ∙ many) (q .0);
+        values-are = ap (λ (y : Handed). y .values) e ∙ front (valuesOf ran) values (length-map (ran .answers) _ ∙ many) (q .1);
       }
 
   pub blocks : Blocks s r t b words values

@@ -20,6 +20,7 @@ use Rattle.format.specs.NetOf.{netOf}
 use Rattle.sheet.specs.Checks.{sheetChecks}
 use Rattle.tally.specs.declared.Tally.{Tally}
 use Rattle.commands.specs.Answers.{wordOf}
+use Rattle.runs.proofs.Turns.{play-append}
 use Rattle.session.specs.Runs.{Answered, answered}
 use Rattle.session.proofs.Steps.{follows-fresh}
 use Rattle.claims.specs.Serials.{serialsFired, tookBack, Serials}
@@ -45,12 +46,6 @@ mem-heard : (l : List J.Answer) (k : Key) → Mem (tookBack k) (map answered l) 
 mem-heard [] k m = m
 mem-heard (a ∷ l) k (inl e) = inl (heard a k e)
 mem-heard (a ∷ l) k (inr m) = inr (mem-heard l k m)
-
--- ---- commands that follow
-
-play-append : (net : Net) (cs ds : List (List ℕ)) (j : Journal) → play net (cs ++ ds) j ≡ play net ds (play net cs j)
-play-append net [] ds j = refl
-play-append net (c ∷ cs) ds j = play-append net cs ds (act net j c .journal)
 
 module _ (s : List ℕ) (accepted : clear (sheetChecks s) ≡ true) (ok : netRule (netOf s) ≡ true) where
   pub serials : (cs : List (List ℕ)) (t : Tally) → Serials s cs t

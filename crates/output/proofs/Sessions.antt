@@ -6,7 +6,7 @@ use mathlib.Core.List.{List, [], _∷_, _++_, map}
 use Prim.Native.Nat.{ℕ, suc, _+_, _<_, _≤_}
 use native.Mathlib.Omega.{arith}
 use native.Mathlib.Nat.{zero-add}
-use lib.ListN.{length, getD, drop, List·getD-append}
+use lib.ListN.{length, getD, drop, length-map, List·getD-append}
 use lib.Seq.{sets}
 use borrow.Author.Tests.{leb-true}
 use Rattle.net.specs.Limits.{maxBonds, maxLive}
@@ -21,7 +21,7 @@ use Rattle.format.specs.Parts.{basesOf}
 use Rattle.format.specs.NetOf.{netOf}
 use Rattle.sheet.specs.Checks.{sheetChecks}
 use Rattle.sheet.proofs.Accepted.{promised}
-use Rattle.tally.specs.Counts.{countedOf, zeroTally}
+use Rattle.tally.specs.Counts.{zeroTally}
 use Rattle.tally.specs.declared.Tally.{Tally}
 use Rattle.text.specs.Joined.{joined}
 use Rattle.text.specs.Writes.{Wrote, Filled}
@@ -29,7 +29,7 @@ use Rattle.text.proofs.Writes.{sets-front, written-none, written-more}
 use Rattle.sound.specs.Soundness.{journalIn, soundIn}
 use Rattle.sound.proofs.Holds.{live-few}
 use Rattle.session.specs.Records.{heldIn, recordOf, Sound}
-use Rattle.session.specs.Commands.{Result, commandOf, freshOf}
+use Rattle.session.specs.Commands.{freshOf}
 use Rattle.commands.specs.Answers.{answerOf, keyOf, wordOf, valueOf}
 use Rattle.session.specs.Runs.{answered, Answered, Session, runOf}
 use Rattle.session.specs.declared.Record.{Record}
@@ -37,10 +37,11 @@ use Rattle.session.proofs.Steps.{follows-fresh, held-back}
 use Rattle.session.proofs.Begins.{fresh-sound}
 use Rattle.command_list.specs.Commands.{howMany, commandAt, commandsIn}
 use Rattle.session.specs.Lists.{lowRefusal, wordsOf, valuesOf, ranOf, RunGives}
-use Rattle.session.proofs.Turns.{length-map, run-length, ran-sound}
+use Rattle.session.proofs.Turns.{run-length, ran-sound, tally-follows}
 use Rattle.session.proofs.Values.{all-low}
 use Rattle.report.specs.Lines.{toldLine}
-use Rattle.output.specs.Output.{answerLines, tallied, closingOf, sessionText}
+use Rattle.runs.specs.Running.{tallied}
+use Rattle.output.specs.Output.{answerLines, closingOf, sessionText}
 use Rattle.output.specs.Said.{lineAt, linesUpto, LowValues}
 use Rattle.output.proofs.Answers.{answeredLines, told-lines, low-values}
 
@@ -49,24 +50,7 @@ use Rattle.output.proofs.Answers.{answeredLines, told-lines, low-values
 stored : (l vs : List ℕ) (i : ℕ) → length vs ≤ length l → i < length vs → getD (sets l 0 vs) i 0 ≡ getD vs i 0
 stored l vs i h e = ap (λ (k : List ℕ). getD k i 0) (sets-front vs l h) ∙ List·getD-append vs (drop (length vs) l) 0 i e
 
--- ---- The tally
-
--- the tally after the answers of a run
-countedBy : List Answered → Tally → Tally
-countedBy [] t = t
-countedBy (a ∷ rest) t = countedBy rest (countedOf t (wordOf (a .answer)))
-
-run-tally : (s : List ℕ) (cs : List (List ℕ)) (r : Record) (t : Tally) → runOf s cs r t .tally ≡ countedBy (runOf s cs r t .answers) t
-unfolding commandOf countedBy
-run-tally s [] r t = refl
-run-tally s (c ∷ cs) r t = let y : Result = commandOf s r t c in run-tally s cs (y .outcome .session) (y .tally)
-
 -- ---- The journal's answers
-
-counted-answers : (l : List J.Answer) (t : Tally) → countedBy (map answered l) t ≡ tallied l t
-unfolding countedBy
-counted-answers [] t = refl
-counted-answers (a ∷ rest) t = counted-answers rest (countedOf t (wordOf (answered a .answer)))
 
 answered-lines : (k : ℕ) (l : List J.Answer) → answeredLines k (map answered l) ≡ answerLines k l
 answered-lines k [] = refl
@@ -94,8 +78,8 @@ module _ (s b : List ℕ) (accepted : clear (sheetChecks s) ≡ true) where
   session-is = follows-fresh s accepted (commandsIn b) zeroTally .session
 
   tally-is : ran .tally ≡ tallied replies zeroTally
-  unfolding ranOf
-  tally-is = run-tally s (commandsIn b) (freshOf s) zeroTally ∙ ap (λ (l : List Answered). countedBy l zeroTally) answers-are ∙ counted-answers replies zeroTally
+  unfolding ranOf freshOf
+  tally-is = tally-follows s accepted (commandsIn b) (begin (netOf s)) zeroTally (begin-held (netOf s) (promised s accepted .rule))
 
   -- the record holds the journal
   holds : heldIn s (ran .session) ≡ journal
@@ -121,10 +105,10 @@ module _ (s b : List ℕ) (accepted : clear (sheetChecks s) ≡ true) where
 
   -- words and values that were stored in longer lists
   words-many : length (wordsOf ran) ≡ howMany b
-  words-many = length-map (λ (a : Answered). wordOf (a .answer)) (ran .answers) ∙ many
+  words-many = length-map (ran .answers) (λ (a : Answered). wordOf (a .answer)) ∙ many
 
   values-many : length (valuesOf ran) ≡ howMany b
-  values-many = length-map (λ (a : Answered). valueOf (a .answer) (a .key)) (ran .answers) ∙ many
+  values-many = length-map (ran .answers) (λ (a : Answered). valueOf (a .answer) (a .key)) ∙ many
 
   module _ (words₀ values₀ : List ℕ) (room : howMany b ≤ length words₀) (space : howMany b ≤ length values₀) where
     word-at : (i : ℕ) → i < howMany b → getD (sets words₀ 0 (wordsOf ran)) i 0 ≡ getD (wordsOf ran) i 0

@@ -11,13 +11,14 @@ use Rattle.net.specs.Journal.{Journal, lineKeys, begin, play, answers}
 use Rattle.format.specs.Bytes.{wordAt}
 use Rattle.format.specs.NetOf.{netOf}
 use Rattle.sheet.specs.Checks.{sheetChecks}
-use Rattle.tally.specs.Counts.{countedOf, zeroTally}
+use Rattle.tally.specs.Counts.{zeroTally}
 use Rattle.tally.specs.declared.Tally.{Tally}
 use Rattle.text.specs.Decimal.{decimal}
 use Rattle.text.specs.Ascii.{ascii}
 use Rattle.closing.specs.Closing.{placesLine, bondLines, liveLine, tallyLine}
-use Rattle.commands.specs.Answers.{answerOf, keyOf, wordOf}
+use Rattle.commands.specs.Answers.{answerOf, keyOf}
 use Rattle.command_list.specs.Commands.{commandsIn}
+use Rattle.runs.specs.Running.{tallied}
 use Rattle.report.specs.Lines.{toldLine}
 
 -- ---- The input: the sheet's length in two bytes, the sheet, the commands
@@ -49,11 +50,6 @@ refusedSheet n = sheetRefused ++ decimal n ++ ascii "\n"
 abbrev pub answerLines : ℕ → List J.Answer → List ℕ
 answerLines k [] = []
 answerLines k (a ∷ rest) = toldLine (suc k) (answerOf a) (keyOf a) ++ answerLines (suc k) rest
-
--- the tally after the answers: each command adds one to one count
-abbrev pub tallied : List J.Answer → Tally → Tally
-tallied [] t = t
-tallied (a ∷ rest) t = tallied rest (countedOf t (wordOf (answerOf a)))
 
 -- places, bonds, live firings, tally
 unfoldable pub closingOf : Journal → Tally → List ℕ

@@ -40,9 +40,10 @@ saidWord a = wordOf (answerOf a)
 abbrev pub saidValue : J.Answer → ℕ
 saidValue a = valueOf (answerOf a) (keyOf a)
 
-abbrev pub talliedOf : Tally → List J.Answer → Tally
-talliedOf t [] = t
-talliedOf t (a ∷ rest) = talliedOf (countedOf t (saidWord a)) rest
+-- the tally after the answers: each command adds one to one count
+abbrev pub tallied : List J.Answer → Tally → Tally
+tallied [] t = t
+tallied (a ∷ rest) t = tallied rest (countedOf t (saidWord a))
 
 -- ---- What the functions in place promise
 
@@ -57,6 +58,6 @@ pub record StepDid (y : Reply) (t : Tally) (x : Stepped) (h : Held) : Type 0 whe
 -- what lies after them stays.
 pub record RanOn (net : Net) (j : Journal) (cs : List (List ℕ)) (t : Tally) (words₀ values₀ : List ℕ) (h : Held) (u : Tally) (words values : List ℕ) : Type 0 where
   pub held-is : h ≡ heldOf (play net cs j)
-  pub tally-is : u ≡ talliedOf t (answers net cs j)
+  pub tally-is : u ≡ tallied (answers net cs j) t
   pub words-are : words ≡ sets words₀ 0 (map saidWord (answers net cs j))
   pub values-are : values ≡ sets values₀ 0 (map saidValue (answers net cs j))

@@ -2,7 +2,7 @@
 -- Assumes a sound record on an accepted sheet where it says so.
 use mathlib.Core.Path.{_≡_, refl, sym, _∙_, ap}
 use mathlib.Core.Bool.{true}
-use mathlib.Core.List.{List, [], _∷_, map}
+use mathlib.Core.List.{List, [], _∷_, map, map-map}
 use Prim.Native.Nat.{ℕ, suc}
 use lib.ListN.{length}
 use lib.Seq.{sets}
@@ -18,7 +18,7 @@ use Rattle.tally.specs.Counts.{countedOf}
 use Rattle.tally.specs.declared.Tally.{Tally}
 use Rattle.commands.specs.Answers.{wordOf, valueOf}
 use Rattle.runs.specs.declared.Held as Struct
-use Rattle.runs.specs.Running.{saidWord, saidValue, talliedOf, RanOn}
+use Rattle.runs.specs.Running.{saidWord, saidValue, tallied, RanOn}
 use Rattle.session.specs.declared.Record.{Record}
 use Rattle.session.specs.declared.Outcome.{Outcome}
 use Rattle.session.specs.Records.{heldIn, recordOf, Sound}
@@ -42,34 +42,20 @@ pub ran-sound : (s b : List ℕ) (r : Record) (t : Tally) → Sound s r → Soun
 unfolding ranOf
 ran-sound s b r t S = run-sound s (commandsIn b) r t S
 
-pub length-map : {A : Type 0} (f : A → ℕ) (l : List A) → length (map f l) ≡ length l
-length-map f [] = refl
-length-map f (x ∷ l) = ap suc (length-map f l)
-
 -- ---- the tally of a list
 
 counted-is : (s : List ℕ) (r : Record) (t : Tally) (c : List ℕ) → commandOf s r t c .tally ≡ countedOf t (wordOf (commandOf s r t c .outcome .answer))
 unfolding commandOf
 counted-is s r t c = refl
 
-tally-follows : (s : List ℕ) (accepted : clear (sheetChecks s) ≡ true) (cs : List (List ℕ)) (j : Journal) (t : Tally) → Held (netOf s) j
-    → runOf s cs (recordOf j) t .tally ≡ talliedOf t (answers (netOf s) cs j)
+pub tally-follows : (s : List ℕ) (accepted : clear (sheetChecks s) ≡ true) (cs : List (List ℕ)) (j : Journal) (t : Tally) → Held (netOf s) j
+    → runOf s cs (recordOf j) t .tally ≡ tallied (answers (netOf s) cs j) t
 tally-follows s accepted [] j t H = refl
 tally-follows s accepted (c ∷ cs) j t H =
     let y : Result = commandOf s (recordOf j) t c in
     let e : y .outcome ≡ outcomeOf (act (netOf s) j c) = outcome-is s (recordOf j) t c ∙ step s accepted j c H in
     let n : y .tally ≡ countedOf t (saidWord (act (netOf s) j c .answer)) = counted-is s (recordOf j) t c ∙ ap (λ (o : Outcome). countedOf t (wordOf (o .answer))) e in
     (λ i. runOf s cs (e i .session) (n i) .tally) ∙ tally-follows s accepted cs (act (netOf s) j c .journal) _ (act-held (netOf s) (promised s accepted .rule) j c H)
-
--- ---- the answers as numbers
-
-said-words : (as₀ : List J.Answer) → map saidWord as₀ ≡ map (λ (a : Answered). wordOf (a .answer)) (map answered as₀)
-said-words [] = refl
-said-words (a ∷ as₀) = ap (λ (ns : List ℕ). saidWord a ∷ ns) (said-words as₀)
-
-said-values : (as₀ : List J.Answer) → map saidValue as₀ ≡ map (λ (a : Answered). valueOf (a .answer) (a .key)) (map answered as₀)
-said-values [] = refl
-said-values (a ∷ as₀) = ap (λ (ns : List ℕ). saidValue a ∷ ns) (said-values as₀)
 
 -- ---- the list on what the record holds
 
@@ -90,6 +76,6 @@ module _ (s b : List ℕ) (r : Record) (t : Tally) (S : Sound s r) where
       record {
         session-is = e ∙ ap recordWith (R .held-is) ∙ sym (F .session) ∙ ap (λ (y : Session). y .session) back;
         tally-is = R .tally-is ∙ sym (tally-follows s (S .passed .accepted) cs (heldIn s r) t (holds s r S)) ∙ ap (λ (y : Session). y .tally) back;
-        words-are = R .words-are ∙ ap (sets words₀ 0) (said-words said ∙ ap (map (λ (a : Answered). wordOf (a .answer))) all);
-        values-are = R .values-are ∙ ap (sets values₀ 0) (said-values said ∙ ap (map (λ (a : Answered). valueOf (a .answer) (a .key))) all);
+        words-are = R .words-are ∙ ap (sets words₀ 0) (sym (map-map (λ (a : Answered). wordOf (a .answer)) answered said) ∙ ap (map (λ (a : Answered). wordOf (a .answer))) all);
+        values-are = R .values-are ∙ ap (sets values₀ 0) (sym (map-map (λ (a : Answered). valueOf (a .answer) (a .key)) answered said) ∙ ap (map (λ (a : Answered). valueOf (a .answer) (a .key))) all);
       }

@@ -1,7 +1,7 @@
 -- What a session is on the record: soundness, starting, one command, a list of commands.
+pub mod Lent
 pub mod Records
 pub mod Commands
-pub mod Lent
 pub mod Live
 pub mod Ways
 pub mod Lamps

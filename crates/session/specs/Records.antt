@@ -3,14 +3,12 @@
 use mathlib.Core.Bool.{Bool}
 use mathlib.Core.List.{List}
 use Prim.Native.Nat.{ℕ}
-use Rattle.net.specs.Limits.{maxBases}
 use Rattle.net.specs.Journal.{Journal}
 use Rattle.format.specs.Parts.{basesOf}
-use Rattle.marking.specs.Form.{laid}
-use Rattle.firings.specs.Lines.{firingsOf}
-use Rattle.movers.specs.Lamp.{lastMovers}
 use Rattle.sound.specs.Soundness.{journalIn, keptIn, Kept}
+use Rattle.runs.specs.Running.{heldOf}
 use Rattle.session.specs.declared.Record.{Record}
+use Rattle.session.specs.Lent.{recordWith}
 
 -- the journal that a record holds, on a sheet
 abbrev pub heldIn : List ℕ → Record → Journal
@@ -18,7 +16,7 @@ heldIn s r = journalIn (basesOf s) (r .marking) (r .firings) (r .given)
 
 -- a journal in the record's form
 unfoldable pub recordOf : Journal → Record
-recordOf j = record { marking = laid (j .marking); firings = firingsOf (j .lines); movers = lastMovers maxBases (j .lines); given = j .given }
+recordOf j = recordWith (heldOf j)
 
 -- Sound for a sheet: it has the form, and its firings, run forward alone from the start, are each accepted with those
 -- moved bases and end in its places and bonds; the highest key given is no lower than any of theirs (02, T-03), and the table of
