@@ -37,6 +37,7 @@ use Rattle.claims.specs.Sessions.{sessionAfter}
 use Rattle.claims.specs.States.{marksIn, historyIn, orderIn, recordAfter}
 use Rattle.claims.specs.Uncoupling.{CommandFires22, CommandTakesBack24, RecordUncouples}
 use Rattle.claims.specs.Published.{FollowsPublished}
+use Rattle.claims.specs.Demands.{Demand3, SessionTotals}
 use Rattle.claims.proofs.Records.{answer-is, journal-is}
 use Rattle.claims.proofs.Published.{holds, session-passes}
 use Rattle.claims.proofs.Demands.{demands}
@@ -76,6 +77,13 @@ published-C = demands .published sheetC accepted-C
 
 pub not-well-formed-C : WellFormed (petriNet (netOf sheetC)) → ⊥
 not-well-formed-C W = both (breaksNothing (netOf sheetC)) (published-C .wellFormed .0 W) (ap breaksNothing sheetC-net)
+
+-- demand 3 and the totals of every list of commands on it
+pub demand3-C : (cs : List (List ℕ)) (t : Tally) → Demand3 sheetC cs t
+demand3-C = demands .demand3 sheetC accepted-C
+
+pub totals-C : (cs : List (List ℕ)) → SessionTotals sheetC cs
+totals-C = demands .totals sheetC accepted-C
 
 -- ---- Sessions on it
 

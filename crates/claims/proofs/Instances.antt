@@ -4,7 +4,11 @@ use mathlib.Core.Path.{_≡_, refl, sym, _∙_, ap, subst}
 use mathlib.Core.Bool.{true, false}
 use mathlib.Core.List.{List, [], _∷_, _++_, map}
 use Prim.Native.Nat.{ℕ}
-use lib.ListN.{set}
+use lib.Dec.{eqb}
+use lib.ListN.{set, take}
+use Rattle.causal.proofs.Tests.{both}
+use Rattle.net.specs.Limits.{maxBases}
+use Rattle.net.specs.Tests.{any}
 use Rattle.net.specs.Net.{Net}
 use Rattle.net.specs.Checks.{clear}
 use Rattle.net.specs.Journal.{Journal, transition, key, begin, act, answers, play}
@@ -12,7 +16,7 @@ use Rattle.net.specs.Cases.{netB, fireOf, undoLast, undoOf}
 use Rattle.net.proofs.Tests.{fails}
 use Rattle.net.proofs.Checks.{clear-append}
 use Rattle.net.specs.declared.Transition.{Transition}
-use Rattle.published.specs.Sets.{Max}
+use Rattle.published.specs.Sets.{Iff, Max}
 use Rattle.published.specs.Backtracking.{BacktrackEnabled}
 use Rattle.published.specs.Causal.{CausalEnabled}
 use Rattle.published.specs.Sheets.{petriNet, breaksNothing, orderOfLines}
@@ -26,11 +30,13 @@ use Rattle.tally.specs.declared.Tally.{Tally}
 use Rattle.way_back.specs.Ways.{wayBack}
 use Rattle.way_back.specs.Answer.{wayOf, wayChecks}
 use Rattle.way_back.specs.declared.WayBack.{WayBack}
-use Rattle.listing.specs.First.{listing}
+use Rattle.movers.specs.Lamp.{lastMovers}
+use Rattle.listing.specs.First.{TurnsInto, listing}
+use Rattle.listing.specs.declared.Listing as L
 use Rattle.listing.specs.Listing.{listingOf}
 use Rattle.spread.specs.Depends.{spreadOf}
 use Rattle.spread.specs.Spread.{told, ownChecks}
-use Rattle.session.specs.Records.{heldIn, soundFor, Sound}
+use Rattle.session.specs.Records.{heldIn, recordOf, soundFor, Sound}
 use Rattle.session.specs.Commands.{freshOf, zeroRecord, startOf, recordChecks, commandOf}
 use Rattle.commands.specs.Answers.{answerOf, wordOf, valueOf}
 use Rattle.session.specs.Runs.{Answered, answered}
@@ -47,7 +53,7 @@ use Rattle.claims.specs.States.{marksIn, historyIn, orderIn}
 use Rattle.claims.specs.Published.{CommandFires, CommandTakesBack, RecordAsPublished, FollowsPublished}
 use Rattle.claims.specs.WayBack.{keysGiven, Smallest}
 use Rattle.claims.specs.Spread.{Slip}
-use Rattle.claims.specs.Listing.{Listing}
+use Rattle.claims.specs.Listing.{numbersIn, Listing}
 use Rattle.claims.specs.Demands.{Demand3}
 use Rattle.claims.proofs.Records.{answer-is}
 use Rattle.claims.proofs.Published.{holds, session-passes}
@@ -216,3 +222,35 @@ listing-B t =
 
 pub listed-B : (t : Tally) → Listing sheetB (recordB turned t)
 listed-B t = demands .listings sheetB (recordB turned t) .given (listing-passes turned t)
+
+-- fired 0, 1, 2 they are listed so too: the one's firings can be turned into the other's; those of 0 alone and of 2 alone cannot
+listing-of : (cs : List (List ℕ)) (t : Tally) → listingFor sheetB (recordB cs t) ≡ listingOf (listing (play netB cs (begin netB) .lines))
+unfolding listingFor
+listing-of cs t =
+    rw (listing-passes cs t)
+    (ap listingOf (ap (λ (j : Journal). listing (j .lines)) (holds sheetB accepted-B (promised sheetB accepted-B .rule) cs t) ∙ ap (λ (n : Net). listing (play n cs (begin n) .lines)) sheetB-net))
+
+same-B : (cs ds : List (List ℕ)) (t : Tally) → Iff (listingFor sheetB (recordB cs t) ≡ listingFor sheetB (recordB ds t)) (TurnsInto (heldIn sheetB (recordB cs t) .lines) (heldIn sheetB (recordB ds t) .lines))
+same-B cs ds t = demands .listings sheetB (recordB cs t) .given (listing-passes cs t) .same (recordB ds t) (listing-passes ds t)
+
+pub turned-B : (t : Tally) → TurnsInto (heldIn sheetB (recordB turned t) .lines) (heldIn sheetB (recordB firings t) .lines)
+turned-B t = same-B turned firings t .0 (listing-of turned t ∙ sym (listing-of firings t))
+
+pub not-turned-B : (t : Tally) → TurnsInto (heldIn sheetB (recordB (fireOf 0 ∷ []) t) .lines) (heldIn sheetB (recordB (fireOf 2 ∷ []) t) .lines) → ⊥
+not-turned-B t T =
+    let e : listingOf (0 ∷ []) ≡ listingOf (2 ∷ []) = sym (listing-of (fireOf 0 ∷ []) t) ∙ same-B (fireOf 0 ∷ []) (fireOf 2 ∷ []) t .1 T ∙ listing-of (fireOf 2 ∷ []) t in
+    both false (ap (λ (y : L.Listing). any (eqb 2) (numbersIn y)) e) refl
+
+-- ---- T-06: after M4 base 0 was last moved by 2; after M5, when 2 is taken back, by 1 again
+abbrev takenBack : List (List ℕ)
+takenBack = fireOf 0 ∷ fireOf 1 ∷ fireOf 2 ∷ undoOf 2 ∷ []
+
+table-B : (cs : List (List ℕ)) (t : Tally) → recordB cs t .movers ≡ lastMovers maxBases (play netB cs (begin netB) .lines)
+unfolding recordOf
+table-B cs t = ap (λ (r : Record). r .movers) (demand3-B cs t .session) ∙ ap (λ (n : Net). lastMovers maxBases (play n cs (begin n) .lines)) sheetB-net
+
+pub movers-M4 : (t : Tally) → take 5 (recordB firings t .movers) ≡ 2 ∷ 3 ∷ 2 ∷ 2 ∷ 0 ∷ []
+movers-M4 t = ap (take 5) (table-B firings t)
+
+pub movers-M5 : (t : Tally) → take 5 (recordB takenBack t .movers) ≡ 1 ∷ 3 ∷ 1 ∷ 1 ∷ 0 ∷ []
+movers-M5 t = ap (take 5) (table-B takenBack t)

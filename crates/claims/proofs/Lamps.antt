@@ -180,6 +180,16 @@ module _ (s : List ℕ) (r : Record) where
         getD-table maxLive (λ x. ltb x (length ls) && onTop maxBases (r .movers) (getD ls x noLine)) i false (omega arith)
         ∙ (λ x. (lt-ltb i (length ls) b ∙ sym (line-live ls l (l .key) m refl)) x && onTop maxBases (r .movers) (sym (own-line ls (held .up) l m) x))
 
+  -- ---- no entry but those of the firing's own bases
+
+  only-own : (k : Key) (u : List ℕ) → ((p : ℕ) → inSet (lineOf k ls .moved) p ≡ true → getD u p 0 ≡ getD (r .movers) p 0) → lamp maxBases u ls k ≡ lit k
+  only-own k u h = λ i. isLive k ls && all (λ (p : ℕ). at p (inSet (lineOf k ls .moved) p) refl i) (table maxBases (λ p. p))
+    where
+      at : (p : ℕ) (b : Bool) → inSet (lineOf k ls .moved) p ≡ b
+          → (not (inSet (lineOf k ls .moved) p) || eqb (getD u p 0) (lineOf k ls .key .0)) ≡ (not (inSet (lineOf k ls .moved) p) || eqb (getD (r .movers) p 0) (lineOf k ls .key .0))
+      at p true e = ap (λ (n : ℕ). not (inSet (lineOf k ls .moved) p) || eqb n (lineOf k ls .key .0)) (h p e)
+      at p false e = ap (λ (b : Bool). not b || eqb (getD u p 0) (lineOf k ls .key .0)) e ∙ sym (ap (λ (b : Bool). not b || eqb (getD (r .movers) p 0) (lineOf k ls .key .0)) e)
+
   -- ---- a refused call, and the flags after the live ones
 
   dark : (i : ℕ) → clear (recordChecks s r []) ≡ false → getD (lampsOf s r .lit) i false ≡ false
@@ -201,6 +211,7 @@ module _ (s : List ℕ) (r : Record) where
     refused = λ h k. asked false h k;
     dead = λ k d. asked (clear (recordChecks s r [])) refl k ∙ ap (λ (b : Bool). clear (recordChecks s r []) && (b && onTop maxBases (r .movers) (lineOf k ls))) d ∙ and-false (clear (recordChecks s r []));
     looks = λ h k live. let (to, from) = looks-at h k live in ((λ e. to (sym (asked true h k) ∙ e)), λ f. asked true h k ∙ from f);
+    only = only-own;
     count = λ h. ap (λ (y : L.Lamps). y .count) (given true h);
     each = λ i b. test (clear (recordChecks s r []))
         (λ h. ap (λ (y : L.Lamps). getD (y .lit) i false) (given true h) ∙ flag-lit h i b ∙ sym (asked true h (getD ls i noLine .key)))

@@ -26,8 +26,8 @@ use Rattle.firings.specs.Lines.{stepsOf}
 use Rattle.listing.specs.First.{FirstOf, ordered, listing}
 use Rattle.listing.specs.Listing.{listingOf, noListing}
 use Rattle.listing.specs.declared.Listing as L
-use Rattle.listing.proofs.First.{listing-first}
-use Rattle.listing.proofs.Turns.{rivals, turns-list, list-turns}
+use Rattle.listing.proofs.First.{listing-first, first-one}
+use Rattle.listing.proofs.Turns.{rivals, turns-list, list-turns, list-marking}
 use Rattle.listing.proofs.Relisted.{ordered-forward, relisted-journal}
 use Rattle.listing.proofs.Filling.{ordered-long}
 use Rattle.session.specs.Records.{heldIn, soundFor}
@@ -107,12 +107,16 @@ module _ (s : List ℕ) where
         ap (λ (x : List (List ℕ)). listingFor s (sessionAfter s x t .session)) commands-are ∙ by-clear z true c
         ∙ ap (λ (i : Journal). listingOf (listing (i .lines))) (holds s (passed .0) rule cs t) ∙ ap listingOf (relisted-journal (netOf s) rule j held) ∙ sym is
 
+    is-first : FirstOf ls (numbersIn (listingFor s r))
+    is-first = subst (FirstOf ls) (sym (ap (map (λ (t : Transition). t .0)) steps-are ∙ numbers-of (listing ls)))
+        (listing-first ls (up-distinct ls (held .up)) (rivals (netOf s) rule j held))
+
   given : (r : Record) → clear (recordChecks s r []) ≡ true → Listing s r
   given r h = record {
     count = ap (λ (y : L.Listing). y .count) (is r h) ∙ long (λ (l : LiveLine). l .transition .0) (ordered (length (ls r h)) (ls r h)) ∙ ordered-long (length (ls r h)) (ls r h);
     unused = ap (λ (y : L.Listing). y .transitions) (is r h) ∙ ap (padWith (transition 0) maxLive) (sym (steps-are r h));
-    first = subst (FirstOf (ls r h)) (sym (ap (map (λ (t : Transition). t .0)) (steps-are r h) ∙ numbers-of (listing (ls r h))))
-        (listing-first (ls r h) (up-distinct (ls r h) (held r h .up)) (rivals (netOf s) (rule r h) (j r h) (held r h)));
+    first = is-first r h;
+    only = λ ns F. first-one (ls r h) ns (numbersIn (listingFor s r)) F (is-first r h);
     order = ordered (length (ls r h)) (ls r h);
     commands = commands-are r h;
     runs = N.forward s (passed r h .0) (rule r h) (ordered (length (ls r h)) (ls r h)) (j r h .marking) (ordered-forward (netOf s) (rule r h) (j r h) (held r h));
@@ -121,6 +125,7 @@ module _ (s : List ℕ) where
       (λ e. list-turns (netOf s) (rule r h) (j r h) (j q k) (held r h) (held q k) (numbers-same (listing (ls r h)) (listing (ls q k)) (sym (is r h) ∙ e ∙ is q k))),
       λ e. is r h ∙ ap listingOf (turns-list (netOf s) (rule r h) (j r h) (j q k) (held r h) (held q k) e) ∙ sym (is q k),
     );
+    assembly = λ q k e. list-marking (netOf s) (rule r h) (j r h) (j q k) (held r h) (held q k) (numbers-same (listing (ls r h)) (listing (ls q k)) (sym (is r h) ∙ e ∙ is q k));
   }
 
   pub listings : (r : Record) → Listings s r

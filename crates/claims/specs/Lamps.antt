@@ -5,6 +5,7 @@ use mathlib.Core.Bool.{true, false}
 use mathlib.Core.List.{List, []}
 use Prim.Native.Nat.{ℕ, _<_, _≤_}
 use lib.ListN.{length, getD}
+use Rattle.net.specs.Limits.{maxBases}
 use Rattle.net.specs.Firing.{inSet}
 use Rattle.net.specs.Checks.{clear, first}
 use Rattle.net.specs.Journal.{noLine, isLive, lineOf}
@@ -13,6 +14,7 @@ use Rattle.net.specs.declared.Key.{Key}
 use Rattle.published.specs.Sets.{Iff}
 use Rattle.tally.specs.declared.Tally.{Tally}
 use Rattle.commands.specs.declared.Answer.the-variants.{Undone}
+use Rattle.movers.specs.Lamp.{lamp}
 use Rattle.lamps.specs.Lamps.{notShown}
 use Rattle.session.specs.Records.{heldIn}
 use Rattle.session.specs.Commands.{recordChecks, commandOf}
@@ -33,6 +35,9 @@ pub record Lamps (s : List ℕ) (r : Record) (t : Tally) : Type 0 where
   -- else only the entries for that firing's moved parts are looked at: yes exactly if each of them has the serial
   pub looks : clear (recordChecks s r []) ≡ true → (k : Key) → isLive k (heldIn s r .lines) ≡ true
       → Iff (canUndo s r k ≡ true) ((p : ℕ) → inSet (lineOf k (heldIn s r .lines) .moved) p ≡ true → getD (r .movers) p 0 ≡ k .0)
+  -- and no other entry: by a table that has the same entries for them, whatever its others are, the lamp is the same
+  pub only : (k : Key) (u : List ℕ) → ((p : ℕ) → inSet (lineOf k (heldIn s r .lines) .moved) p ≡ true → getD u p 0 ≡ getD (r .movers) p 0)
+      → lamp maxBases u (heldIn s r .lines) k ≡ lamp maxBases (r .movers) (heldIn s r .lines) k
   -- all lamps in one call: as many as firings are live, each in its place, and no after them
   pub count : clear (recordChecks s r []) ≡ true → lampsOf s r .count ≡ length (heldIn s r .lines)
   pub each : (i : ℕ) → i < length (heldIn s r .lines) → getD (lampsOf s r .lit) i false ≡ canUndo s r (getD (heldIn s r .lines) i noLine .key)

@@ -40,6 +40,8 @@ pub record Listing (s : List ℕ) (r : Record) : Type 0 where
   pub count : listingFor s r .count ≡ length (heldIn s r .lines)
   pub unused : listingFor s r .transitions ≡ padWith (transition 0) maxLive (stepsIn (listingFor s r))
   pub first : FirstOf (heldIn s r .lines) (numbersIn (listingFor s r))
+  -- and no other numbers are so
+  pub only : (ns : List ℕ) → FirstOf (heldIn s r .lines) ns → ns ≡ numbersIn (listingFor s r)
   -- fired in turn from a fresh record, each is answered `fired`, the places and couplings come out as they are, and the listing of
   -- the record at the end is the same
   pub order : List LiveLine
@@ -49,6 +51,8 @@ pub record Listing (s : List ℕ) (r : Record) : Type 0 where
   -- the listing of another record that is not refused is equal exactly if the one's live firings can be turned into the other's,
   -- serials apart, by swapping neighbours that moved no common part
   pub same : (q : Record) → clear (recordChecks s q []) ≡ true → Iff (listingFor s r ≡ listingFor s q) (TurnsInto (heldIn s r .lines) (heldIn s q .lines))
+  -- so records with equal listings have the same places and couplings
+  pub assembly : (q : Record) → clear (recordChecks s q []) ≡ true → listingFor s r ≡ listingFor s q → heldIn s r .marking ≡ heldIn s q .marking
 
 pub record Listings (s : List ℕ) (r : Record) : Type 0 where
   -- given where none of 1 to 10 holds

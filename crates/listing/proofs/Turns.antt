@@ -9,7 +9,7 @@ use native.Mathlib.Omega.{arith}
 use lib.ListN.{length}
 use borrow.Author.Tests.{ltb-true}
 use Rattle.causal.specs.Lists.{Mem}
-use Rattle.causal.specs.Reorderings.{Swapped}
+use Rattle.causal.specs.Reorderings.{Swapped, stay, swap, under, chain}
 use Rattle.causal.specs.Runs.{Run, Laws}
 use Rattle.causal.proofs.Reorderings.{swapped-sym}
 use Rattle.causal.proofs.Runs.{swapped-run}
@@ -46,6 +46,18 @@ same-steps net (l ∷ ls) (k ∷ ks) s z y r q e =
     let g : r .0 ≡ q .0 = r .1 .gives ∙ ap (λ (x : Transition). fire (net .bases) (arcsOf net x) s) t ∙ sym (q .1 .gives) in
     let (a, d) = same-steps net ls ks (q .0) z y (subst (λ (x : Marking). Run (Fires net) x ls z) g (r .2)) (q .2) (tail-eq-of-cons-eq e) in
     ((t, m, a), d)
+
+-- ---- swaps go over to lines that are the same but for their serials
+
+swapped-apart : {ms ns : List LiveLine} → Swapped inSet ms ns → (ls : List LiveLine) → SerialsApart ls ms → (ks : List LiveLine) × Swapped inSet ls ks × SerialsApart ks ns
+swapped-apart stay ls a = (ls, stay, a)
+swapped-apart (swap h) [] a = absurd a
+swapped-apart (swap h) (l ∷ []) a = absurd (a .2)
+swapped-apart (swap h) (l ∷ k ∷ ls) a =
+    (k ∷ l ∷ ls, swap (λ p e. ap (λ (m : List Bool). inSet m p) (a .2 .1) ∙ h p (ap (λ (m : List Bool). inSet m p) (sym (a .1)) ∙ e)), (a .2 .0, a .2 .1, (a .0, a .1, a .2 .2)))
+swapped-apart (under t) [] a = absurd a
+swapped-apart (under t) (l ∷ ls) a = let (ks, s, b) = swapped-apart t ls (a .2) in (l ∷ ks, under s, (a .0, a .1, b))
+swapped-apart (chain t u) ls a = let (ks, s, b) = swapped-apart t ls a in let (js, v, c) = swapped-apart u ks b in (js, chain s v, c)
 
 -- ---- each firing moved the base of its step's first entry
 
@@ -95,17 +107,13 @@ module _ (net : Net) (ok : netRule net ≡ true) where
   ordered-run j H = swapped-run inSet view (Good net) (Fires net) (λ s a m. undo (net .bases) (arcsOf net a) m s) L (ordered-swapped (j .lines)) (net .start) (j .marking) (start-good net ok) (H .run)
 
   pub turns-list : (j i : Journal) → Held net j → Held net i → TurnsInto (j .lines) (i .lines) → listing (j .lines) ≡ listing (i .lines)
-  turns-list j i H I T =
-      swapped-listing j H (T .left) (T .from) ∙ listing-apart (T .left) (T .right) (T .apart) ∙ sym (swapped-listing i I (T .right) (swapped-sym inSet (T .to)))
+  turns-list j i H I T = swapped-listing j H (T .turned) (T .by) ∙ listing-apart (T .turned) (i .lines) (T .apart)
 
   pub list-turns : (j i : Journal) → Held net j → Held net i → listing (j .lines) ≡ listing (i .lines) → TurnsInto (j .lines) (i .lines)
-  list-turns j i H I e = record {
-    left = ordered (length (j .lines)) (j .lines);
-    right = ordered (length (i .lines)) (i .lines);
-    from = ordered-swapped (j .lines);
-    apart = same-steps net (ordered (length (j .lines)) (j .lines)) (ordered (length (i .lines)) (i .lines)) (net .start) (j .marking) (i .marking) (ordered-run j H) (ordered-run i I) e .0;
-    to = swapped-sym inSet (ordered-swapped (i .lines));
-  }
+  list-turns j i H I e =
+      let (ks, s, a) = swapped-apart (swapped-sym inSet (ordered-swapped (i .lines))) (ordered (length (j .lines)) (j .lines))
+      (same-steps net (ordered (length (j .lines)) (j .lines)) (ordered (length (i .lines)) (i .lines)) (net .start) (j .marking) (i .marking) (ordered-run j H) (ordered-run i I) e .0) in
+      record { turned = ks; by = chain (ordered-swapped (j .lines)) s; apart = a }
 
   -- journals with one listing have one marking
   pub list-marking : (j i : Journal) → Held net j → Held net i → listing (j .lines) ≡ listing (i .lines) → j .marking ≡ i .marking

@@ -36,13 +36,12 @@ SerialsApart [] (k ∷ ks) = ⊥
 SerialsApart (l ∷ ls) [] = ⊥
 SerialsApart (l ∷ ls) (k ∷ ks) = (l .transition ≡ k .transition) × (l .moved ≡ k .moved) × SerialsApart ls ks
 
--- The lines ls can be turned into ms, serials apart, by swapping neighbours that moved no common base.
+-- The lines ls can be turned into ms, serials apart: by swapping neighbours that moved no common base they become lines that are ms
+-- but for their serials.
 pub record TurnsInto (ls ms : List LiveLine) : Type 0 where
-  pub left : List LiveLine
-  pub right : List LiveLine
-  pub from : Swapped inSet ls left
-  pub apart : SerialsApart left right
-  pub to : Swapped inSet right ms
+  pub turned : List LiveLine
+  pub by : Swapped inSet ls turned
+  pub apart : SerialsApart turned ms
 
 -- ---- As it is computed: time and again the line of least step among those that share no base with a line before them
 
