@@ -36,7 +36,7 @@ use Rattle.spread.specs.Depends.{Depends, itself, through, spreadOf, remaining}
 use Rattle.spread.specs.Spread as P
 use Rattle.spread.specs.Spread.{notTold, ownChecks}
 use Rattle.spread.specs.declared.Spread.{Spread}
-use Rattle.spread.proofs.Chains.{Facts, depends-then}
+use Rattle.spread.proofs.Chains.{Facts, depends-mem}
 use Rattle.spread.proofs.Forward.{JournalSlip, slip}
 use Rattle.session.specs.Records.{heldIn, soundFor}
 use Rattle.session.specs.Commands.{recordChecks}
@@ -65,12 +65,14 @@ one-line ls u x m i n e =
 -- a closed set that has a line has all that depend on it
 closed-chain : (ls : List LiveLine) (f : Key → Bool) → ClosedUpward ls f → {a m : LiveLine} → Depends ls a m → Mem a ls → f (a .key) ≡ true → f (m .key) ≡ true
 closed-chain ls f c itself i e = e
-closed-chain ls f c (through {l = a} {k = k} n lt s d) i e = closed-chain ls f c d n (c a k i n lt s e)
+closed-chain ls f c (through {k = k} {m = m} d n lt s) i e = c k m (depends-mem d i) n lt s (closed-chain ls f c d i e)
 
 -- nothing but itself depends on a line that no other is built on
 alone : (ls : List LiveLine) {a m : LiveLine} → Depends ls a m → builtOn ls a ≡ false → m ≡ a
 alone ls itself b = refl
-alone ls (through {l = a} {k = k} n lt s d) b = both (builtOn ls a) (built-i ls a k n lt s) b
+alone ls {a} (through {k = k} {m = m} d n lt s) b =
+    let e : k ≡ a = alone ls d b in
+    both (builtOn ls k) (built-i ls k m n lt s) (ap (builtOn ls) e ∙ b)
 
 module _ (s : List ℕ) (r : Record) (k : Key) where
   abbrev j : Journal
@@ -144,7 +146,7 @@ module _ (s : List ℕ) (r : Record) (k : Key) where
         not-so (rw (one-line ls (held .up) x m o i q) (d .1))))
 
     upward : ClosedUpward ls (goesWith s r k)
-    upward a b i n lt c e = gone b n (n, depends-then (goes a i e .1) (through n lt c itself))
+    upward a b i n lt c e = gone b n (n, through (goes a i e .1) n lt c)
 
     sets : ClosedSets (netOf s) j
     sets = closed-sets (netOf s) rule j held
@@ -171,7 +173,7 @@ module _ (s : List ℕ) (r : Record) (k : Key) where
     alone-lit f =
         let b : builtOn ls (lineOf k ls) ≡ false = fails (builtOn ls (lineOf k ls)) (λ e.
         let (x, i, lt, c) = built-e ls (lineOf k ls) e in
-        let q : x .key .0 ≡ lineOf k ls .key .0 = ap (λ (y : LiveLine). y .key .0) (f x (i, through i lt c itself)) in
+        let q : x .key .0 ≡ lineOf k ls .key .0 = ap (λ (y : LiveLine). y .key .0) (f x (i, through itself i lt c)) in
         let z : ⊥ = omega arith in z) in
         can-undo-is s r front k ∙ rw (passed .2, b) refl
 

@@ -69,9 +69,9 @@ gone-inside (l ∷ ys) m y i g p e = go (common m (l .moved)) i g (λ k a b. gon
     go false (inl q) g ih = absurd (g (inl q))
     go false (inr i) g ih = ih m i (λ n. g (inr n))
 
-pub depends-then : {ls : List LiveLine} {l k m : LiveLine} → Depends ls l k → Depends ls k m → Depends ls l m
-depends-then itself e = e
-depends-then (through a b c d) e = through a b c (depends-then d e)
+pub depends-mem : {ls : List LiveLine} {l m : LiveLine} → Depends ls l m → Mem l ls → Mem m ls
+depends-mem itself i = i
+depends-mem (through d a b c) i = a
 
 -- what goes depends on the given line, and what is in the set was moved by such a line
 module _ (all : List LiveLine) (l₀ : LiveLine) where
@@ -83,7 +83,7 @@ module _ (all : List LiveLine) (l₀ : LiveLine) where
   source-next m l ys u i S c =
       let (p, a, b) = common-e m (l .moved) c in
       let (y, n, d, e, f) = S p a in
-      let D : Depends all l₀ l = depends-then d (through i (f l (inl refl)) (common-i (y .moved) (l .moved) p e b) itself) in
+      let D : Depends all l₀ l = through d i (f l (inl refl)) (common-i (y .moved) (l .moved) p e b) in
       (D, λ p q. from p D (or-e (inSet m p) (inSet (l .moved) p) (sym (either-at m (l .moved) p) ∙ q)))
     where
       from : (p : ℕ) → Depends all l₀ l → (inSet m p ≡ true) ⊎ (inSet (l .moved) p ≡ true)
@@ -180,7 +180,7 @@ module _ (xs ys : List LiveLine) (l : LiveLine) (u : Up (xs ++ l ∷ ys)) where
 
   gone-all : {a x : LiveLine} → Depends (xs ++ l ∷ ys) a x → Gone a → Gone x
   gone-all itself g = g
-  gone-all (through {l = a} {k = k} m lt c d) g = gone-all d (gone-next a k g m lt c)
+  gone-all (through {k = k} {m = x} d m lt c) g = gone-next k x (gone-all d g) m lt c
 
   reached : ((x : LiveLine) → Mem x ys → Mem x (others (l .moved) ys) ⊎ Depends (xs ++ l ∷ ys) l x)
       × ((p : ℕ) → inSet (spread (l .moved) (movedSets ys)) p ≡ true → (y : LiveLine) × Mem y (xs ++ l ∷ ys) × Depends (xs ++ l ∷ ys) l y × (inSet (y .moved) p ≡ true))

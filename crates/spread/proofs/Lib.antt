@@ -4,3 +4,4 @@ pub mod Left
 pub mod Chains
 pub mod Forward
 pub mod Places
+pub mod Cases

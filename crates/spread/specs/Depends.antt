@@ -12,9 +12,9 @@ use Rattle.words.specs.Sets.{either}
 
 -- The line m of ls depends on the line l, directly or through others, or is l: a later firing depends on an earlier one that
 -- moved a common base.
-pub data Depends (ls : List LiveLine) : LiveLine → LiveLine → Type 0 where
-  itself : {l : LiveLine} → Depends ls l l
-  through : {l k m : LiveLine} → Mem k ls → l .key .0 < k .key .0 → common (l .moved) (k .moved) ≡ true → Depends ls k m → Depends ls l m
+pub data Depends (ls : List LiveLine) (l : LiveLine) : LiveLine → Type 0 where
+  itself : Depends ls l l
+  through : {k m : LiveLine} → Depends ls l k → Mem m ls → k .key .0 < m .key .0 → common (k .moved) (m .moved) ≡ true → Depends ls l m
 
 -- ---- As it is computed: one pass over the lines after the given one
 
