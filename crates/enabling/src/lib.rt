@@ -253,14 +253,16 @@ pub fn label_kept<'a>(
         (keep (λ b. not (brokenBond (arcsIn (now (step .entry))) b)) (bondsIn (now (lo .entry)) (now (hi .entry)) count)) ⌝ }
 {
     label_in(l, members, lo, hi, 0);
-    let mut i = 0;
-    while i < count {
+    let mut left = count;
+    let mut next = 0;
+    while 0 < left {
         let b = Bond {
-            lo: lo[i],
-            hi: hi[i],
+            lo: lo[next],
+            hi: hi[next],
         };
         join_kept(step, l, members, b);
-        i += 1;
+        next += 1;
+        left -= 1;
     }
 }
 

@@ -150,11 +150,9 @@ fn why_torn(r: Record, sheet: &[u8], bytes: &[u8]) -> Reason
 {
     let step = step_named(sheet, bytes);
     let m = r.marking;
-    let lo = m.lo;
-    let hi = m.hi;
     let mut l = [0u8; MAX_BASES];
     let mut members = [0u64; MAX_BASES];
-    label_kept(step, &mut l, &mut members, &lo, &hi, m.count);
+    label_kept(step, &mut l, &mut members, &m.lo, &m.hi, m.count);
     join_out_bonds(step, &mut l, &mut members);
     let i = first_torn(step, &l);
     let e = entry(step, i);

@@ -17,21 +17,21 @@ step-named-requires c κs = search needs
 
 label-kept-requires : tie.Need-label-kept-requires
 label-kept-requires c κs =
-    let s : tie.Start = c .before .before .before .before .before .before .before .before .before .before in
+    let s : tie.Start = c .before .before .before .before .before .before .before .before .before in
     let P = placed (s .args .sheet .now) (s .args .r .marking) (s .args .r .firings) (s .args .r .given) (s .pre .sound .passed) in
     let (room, order) = bonds-ready (s .args .sheet .now) (s .args .r) (s .args .bytes .now) (s .pre .sound) in
     ((search needs, room, order), placed-ends (s .args .sheet .now) (s .args .r .marking) P)
 
 join-out-bonds-requires : tie.Need-join-out-bonds-requires
 join-out-bonds-requires c κs =
-    let a : tie.After-step-named = c .before .before .before .before .before .before .before .before .before .before in
+    let a : tie.After-step-named = c .before .before .before .before .before .before .before .before .before in
     let s : tie.Start = start a in
     let L = c .before .before .label-kept .ensures in
     ((L .parted .size, L .size, L .parted .low), outs-low (s .args .sheet .now) (s .args .r) (s .args .bytes .now) (s .pre .sound) (a .step-named .result .now) (a .step-named .ensures))
 
 first-torn-requires : tie.Need-first-torn-requires
 first-torn-requires c κs =
-    let a : tie.After-step-named = c .before .before .before .before .before .before .before .before .before .before .before .before in
+    let a : tie.After-step-named = c .before .before .before .before .before .before .before .before .before .before .before in
     let s : tie.Start = start a in
     entries-low (s .args .sheet .now) (s .args .r) (s .args .bytes .now) (s .pre .sound) (a .step-named .result .now) (a .step-named .ensures)
 
@@ -40,7 +40,7 @@ entry-requires c κs = search needs
 
 first-partner-requires : tie.Need-first-partner-requires
 first-partner-requires c κs =
-    let a : tie.After-step-named = c .before .before .before .before .before .before .before .before .before .before .before .before .before .before .before in
+    let a : tie.After-step-named = c .before .before .before .before .before .before .before .before .before .before .before .before .before .before in
     let s : tie.Start = start a in
     let m = heldIn (s .args .sheet .now) (s .args .r) .marking in
     let parted = c .before .before .before .before .join-out-bonds .ensures _ (c .before .before .before .before .before .before .before .label-kept .ensures) .parted in
@@ -51,7 +51,7 @@ entry-requires-2 c κs = search needs
 
 returns : tie.Need-returns
 returns c =
-    let a : tie.After-step-named = c .before .before .before .before .before .before .before .before .before .before .before .before .before .before .before .before .before in
+    let a : tie.After-step-named = c .before .before .before .before .before .before .before .before .before .before .before .before .before .before .before .before in
     let s : tie.Start = start a in
     let m = heldIn (s .args .sheet .now) (s .args .r) .marking in
     let parted = c .before .before .before .before .before .before .join-out-bonds .ensures _ (c .before .before .before .before .before .before .before .before .before .label-kept .ensures) .parted in
