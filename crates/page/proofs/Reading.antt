@@ -97,6 +97,7 @@ paged-of fs k b a b′ r e w = (
   w .1 ∙ test (ltb maxLive (length fs))
       (λ h. rw h (unwritten (ltb (length b) pageBytes) (not (isPage (length fs) k)) (pageText (rowsTo r (length fs)) k) (pageText (map rowOf fs) k) b))
       (λ h. rw (e, rows-gathered fs (ltb-false maxLive (length fs) h))),
+  w .2,
 )
 
 -- n, and no more than a list has, is how many its first n are

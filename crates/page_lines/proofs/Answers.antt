@@ -46,10 +46,10 @@ pub laid-refused : (rs : List Row) (n k : ℕ) (b : List ℕ) (m : ℕ) → m �
 unfolding pageAnswer writtenIf
 laid-refused rs n k b m e h =
     let o = one-holds (ltb (length b) pageBytes) (ltb maxLive n) (not (isPage n k)) (λ z. h (e ∙ z)) in
-    (rw (o, e), rw o)
+    (rw (o, e), rw o, e)
 
 pub laid-printed : (rs : List Row) (n k : ℕ) (b b′ : List ℕ) (m : ℕ) → m ≡ first (pageChecks (length b) n k) → m ≡ 0 → b′ ≡ sets b 0 (pageText rs k) → Laid rs n k b Printed b′
 unfolding pageAnswer writtenIf
 laid-printed rs n k b b′ m e h w =
     let o = none-clear (ltb (length b) pageBytes) (ltb maxLive n) (not (isPage n k)) (sym e ∙ h) in
-    (rw o, w ∙ rw o)
+    (rw o, w ∙ rw o, sym h ∙ e)

@@ -1,7 +1,7 @@
 -- Proofs of what specs/Claims says of ruled pages: every line fits, and the pages hold each firing once and in order.
 -- Assumes nothing.
 use mathlib.Core.Path.{_≡_, refl, sym, ap, _∙_}
-use mathlib.Core.Bool.{Bool, true, not, _&&_}
+use mathlib.Core.Bool.{Bool, true, false, not, _&&_}
 use mathlib.Core.List.{List, [], _∷_, _++_, map}
 use Prim.Native.Nat.{ℕ, zero, suc, _+_, _-_, _*_, _/_, _<_, _≤_}
 use native.Mathlib.Omega.{arith}
@@ -11,16 +11,18 @@ use lib.ListN.{length, getD, drop, length-append}
 use borrow.Author.Tests.{lt-ltb, le-ltb, ltb-true, ltb-false, leb-true, eqb-true, not-true}
 use Rattle.net.specs.Limits.{maxBases, maxLive}
 use Rattle.net.specs.Tests.{pick, all, table}
-use Rattle.net.specs.Checks.{check, clear}
+use Rattle.net.specs.Checks.{check, clear, first}
 use Rattle.net.proofs.Tests.{and-l, and-r, pick-case}
 use Rattle.net.proofs.Tables.{table-cong}
 use Rattle.bonds.proofs.Fill.{table-map}
+use Rattle.text.specs.Ascii.{ascii}
 use Rattle.text.specs.Decimal.{decimal}
 use Rattle.text.specs.Joined.{joined}
 use Rattle.text.proofs.Digits.{digits-length}
 use Rattle.text.proofs.Writes.{sets-front}
-use Rattle.page_lines.specs.Page.{Row, row, columns, pageRows, pageFrom, rightIn, rowText, rowLine, blankLine, lastLine, lineAt, pageLines, pageBytes, pageText}
-use Rattle.page_lines.specs.Answers.{pagesOf, isPage, writtenIf}
+use Rattle.page_lines.specs.Page.{Row, row, line, columns, pageRows, pageFrom, rightIn, rowText, rowLine, blankLine, lastLine, lineAt, pageLines, pageBytes, pageText}
+use Rattle.page_lines.specs.Answers.{pagesOf, isPage, pageChecks, pageAnswer, writtenIf}
+use Rattle.page_lines.specs.declared.PageAnswer.the-variants.{Refused}
 use Rattle.page_lines.specs.Claims.{holdable, FitsColumns, PageFits, linesTo, PagesHold, PrintedWhole}
 use Rattle.page_lines.proofs.Lines.{fits-3, fits-4, fits-5, right-length, line-length}
 
@@ -147,3 +149,21 @@ printed-whole rs k b h e =
     let r = ltb-false (length b) pageBytes (not-true n (and-l (not n) (clear (check 24 (ltb maxLive (length rs)) ∷ check 25 (not (isPage (length rs) k)) ∷ [])) e)) in
     let w = page-fits rs k h .bytes in
     rw e (sets-front (pageText rs k) b (omega arith) ∙ ap (λ (m : ℕ). pageText rs k ++ drop m b) w)
+
+-- a line and a last line, spelt out
+pub line-M1 : rowLine (row 1 0 3) ≡ ascii "    1   0    3                          \n"
+unfolding line decimal
+line-M1 = refl
+
+pub line-full : rowLine (row 65535 63 64) ≡ ascii "65535  63   64                          \n"
+unfolding line decimal
+line-full = refl
+
+pub last-6 : lastLine 6 ≡ ascii "page 6                                  \n"
+unfolding line decimal
+last-6 = refl
+
+pub away : (rs : List Row) (k : ℕ) (b : List ℕ) → clear (pageChecks (length b) (length rs) k) ≡ false
+    → (pageAnswer (pageChecks (length b) (length rs) k) ≡ Refused (first (pageChecks (length b) (length rs) k))) × (writtenIf (pageChecks (length b) (length rs) k) (pageText rs k) b ≡ b)
+unfolding pageAnswer writtenIf
+away rs k b h = (rw h, rw h)

@@ -46,3 +46,4 @@ writtenIf cs t b = pick (clear cs) (sets b 0 t) b
 -- Page k of the list rs was asked for, of n firings, into the buffer b: the answer a came, and b′ is the buffer after.
 abbrev pub Laid : List Row → ℕ → ℕ → List ℕ → PageAnswer → List ℕ → Type 0
 Laid rs n k b a b′ = (a ≡ pageAnswer (pageChecks (length b) n k)) × (b′ ≡ writtenIf (pageChecks (length b) n k) (pageText rs k) b)
+    × (pageNumber a ≡ first (pageChecks (length b) n k))
