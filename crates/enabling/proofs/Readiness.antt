@@ -1,9 +1,10 @@
 -- What follows where a transition and a marking are ready: room for the bonds, and bases within the arrays.
 -- Assumes nothing.
 use mathlib.Core.Path.{_≡_, sym, _∙_, ap}
-use mathlib.Core.Bool.{not}
+use mathlib.Core.Bool.{true, not}
 use mathlib.Core.List.{List}
-use Prim.Native.Nat.{ℕ, _*_, _-_, _<_, _≤_}
+use Prim.Native.Nat.{ℕ, _<_, _≤_}
+use native.Mathlib.Nat.{le-trans}
 use native.Mathlib.Omega.{arith}
 use lib.Dec.{eqb}
 use lib.ListN.{length, getD, take, length-take}
@@ -11,13 +12,16 @@ use lib.Seq.{getD-take}
 use Rattle.causal.specs.Lists.{Mem}
 use Rattle.net.specs.Limits.{maxBases, maxBonds}
 use Rattle.net.specs.Tests.{any}
-use Rattle.net.specs.Net.{Arcs, place}
+use Rattle.net.specs.Sorted.{Ascending, puts}
+use Rattle.net.specs.Net.{Arcs, sameBond, lessBond, hasBond, arcsBonds, place}
 use Rattle.net.specs.Firing.{misplaced}
 use Rattle.net.specs.declared.Bond.{Bond}
 use Rattle.net.specs.declared.Entry.{Entry}
 use Rattle.net.proofs.Tests.{any-cong}
 use Rattle.net.proofs.Tables.{length-table}
 use Rattle.net.proofs.Bonds.{mem-has}
+use Rattle.net.proofs.Written.{puts-right}
+use Rattle.net.proofs.Pairs.{few-among}
 use Rattle.format.specs.Arcs.{arcsIn, entryCount, nthEntry, outCount, nthOutBond}
 use Rattle.bonds.specs.Ends.{ends}
 use Rattle.bonds.proofs.Fill.{mem-table}
@@ -25,7 +29,6 @@ use Rattle.labels.specs.Labelled.{Within}
 use Rattle.marking.specs.declared.Marking.{Marking}
 use Rattle.marking.specs.Form.{bondsOf, markingOf, InOrder}
 use Rattle.marking.proofs.Padding.{length-padded}
-use Rattle.marking.proofs.Room.{bonds-fit}
 use Rattle.enabling.specs.Ready.{Ready}
 
 -- 13, with the places as they lie
@@ -37,11 +40,15 @@ misplaced-here n t h m = any-cong (λ (e : Entry). not (eqb (getD (m .places) (e
 -- ---- a transition and a marking that are ready
 
 module _ (n : ℕ) (t : Arcs) (m : Marking) (R : Ready n t m) where
+  -- bonds in order, each of the marking or of the transition, fit
+  pub few-here : (bs : List Bond) → Ascending sameBond lessBond bs → ((b : Bond) → hasBond b bs ≡ true → hasBond b (puts sameBond lessBond (arcsBonds t) (bondsOf m)) ≡ true)
+      → length bs ≤ maxBonds
+  few-here bs o h = le-trans (few-among bs (puts sameBond lessBond (arcsBonds t) (bondsOf m)) o h) (R .room)
+
   pub room : m .count ≤ maxBonds
   room =
       let a : length (bondsOf m) ≡ m .count = length-table (m .count) (ends (m .lo) (m .hi)) in
-      let b : 2 * length (bondsOf m) ≤ maxBases * (maxBases - 1) = bonds-fit n maxBases (R .few) (bondsOf m) (R .order) (R .range) in
-      omega arith
+      rw (← a) (few-here (bondsOf m) (R .order) (puts-right (arcsBonds t) (bondsOf m)))
 
   pub in-order : InOrder m
   in-order = record { room = room; form = λ i. record { places = m .places; count = R .form i .count; lo = R .form i .lo; hi = R .form i .hi }; order = R .order }

@@ -10,7 +10,7 @@ use borrow.Author.Tests.{eqb-true}
 use Rattle.net.specs.Limits.{maxBases, maxBonds}
 use Rattle.net.specs.Tests.{pick, keep, table}
 use Rattle.net.specs.Sorted.{puts}
-use Rattle.net.specs.Net.{sameBond, lessBond, hasBond}
+use Rattle.net.specs.Net.{sameBond, lessBond, hasBond, arcsBonds}
 use Rattle.net.specs.Firing.{brokenBond, breaksNone, bondsSeen, fire, newBond, bondsBack, undo}
 use Rattle.net.specs.declared.Bond.{Bond}
 use Rattle.net.proofs.Tests.{and-l, and-r}
@@ -50,10 +50,10 @@ EndsLow m = (i : ℕ) → i < m .count → (getD (m .lo) i 0 < maxBases) × (get
 -- the transition in the bytes `step` is ready at m
 module _ (n : ℕ) (step : List ℕ) (m : Marking) (R : Ready n (arcsIn step) m) where
   -- room for the bonds of a side, once those of g went out
-  pub side-room : (g : Bond → Bool) (one : Marking) → Cut g m one → (bs : List Bond) → ((b : Bond) → hasBond b bs ≡ true → (b .lo < b .hi) × (b .hi < n)) → HasRoom bs (bare one)
+  pub side-room : (g : Bond → Bool) (one : Marking) → Cut g m one → (bs : List Bond) → ((b : Bond) → hasBond b bs ≡ true → hasBond b (arcsBonds (arcsIn step)) ≡ true) → HasRoom bs (bare one)
   side-room g one p bs h =
       let f = fits n (arcsIn step) (over (m .places) one) (ready-cut n (arcsIn step) m R (λ b. not (g b)) (over (m .places) one) (ap (over (m .places)) p)) bs h in
-      record { order = bonds-order (over (m .places) one) (f .order); low = f .low; comes = f .comes }
+      record { order = bonds-order (over (m .places) one) (f .order); room = f .room }
 
   -- firing
   module _ (one two : Marking) (p : Cut (brokenBond (arcsIn step)) m one) (q : Put (keep (goesIn (arcsIn step) true) (arcsIn step .outBonds)) one two) where

@@ -4,13 +4,13 @@ use mathlib.Core.Path.{_≡_, sym, _∙_, ap, subst}
 use mathlib.Core.Logic.{_⊎_, inl, inr}
 use mathlib.Core.Bool.{Bool, true, false, not, _&&_}
 use mathlib.Core.List.{List}
-use Prim.Native.Nat.{ℕ, _<_}
+use Prim.Native.Nat.{ℕ, _<_, _≤_}
 use native.Mathlib.Omega.{arith}
 use lib.ListN.{length, getD}
 use Rattle.net.specs.Limits.{maxBases, maxBonds}
 use Rattle.net.specs.Tests.{pick, keep, table}
 use Rattle.net.specs.Sorted.{Ascending, puts}
-use Rattle.net.specs.Net.{Arcs, sameBond, lessBond, hasBond, place}
+use Rattle.net.specs.Net.{Arcs, sameBond, lessBond, hasBond, arcsBonds, place}
 use Rattle.net.specs.Firing.{inSet, brokenBond, breaksNone, bondsSeen, sent, fire, newBond, bondsBack, undo}
 use Rattle.net.specs.declared.Bond.{Bond}
 use Rattle.net.specs.declared.Entry.{Entry}
@@ -18,6 +18,7 @@ use Rattle.net.proofs.Tests.{and-l, or-e, keep-cong, keep-yes}
 use Rattle.net.proofs.Tables.{table-cong}
 use Rattle.net.proofs.Sorted.{has-keep, has-puts, ascending-keep, ascending-puts}
 use Rattle.net.proofs.Bonds.{mem-has, bond-order}
+use Rattle.net.proofs.Written.{has-left, has-right, puts-left, puts-right, puts-among}
 use Rattle.net.proofs.Uncoupling.{keep-no, kept-none, kept-back}
 use Rattle.words.specs.Sets.{setOf}
 use Rattle.words.proofs.Bits.{bit-at}
@@ -28,21 +29,25 @@ use Rattle.marking.specs.Held.{holding}
 use Rattle.marking.proofs.Forms.{bonds-with}
 use Rattle.groups.specs.Groups.{firsts, side}
 use Rattle.enabling.specs.Ready.{Ready}
-use Rattle.enabling.proofs.Readiness.{in-order}
-use Rattle.engine.specs.Change.{Low, HasRoom, goesIn}
+use Rattle.enabling.proofs.Readiness.{in-order, few-here}
+use Rattle.engine.specs.Change.{HasRoom, goesIn}
 use Rattle.engine.proofs.Labels.{none-gone}
 use Rattle.engine.proofs.Sending.{sent-all}
 
 module _ (n : ℕ) (t : Arcs) (m : Marking) (R : Ready n t m) where
-  -- bonds of bases of the net are of bases that an array holds
-  pub low-in : (bs : List Bond) → ((b : Bond) → hasBond b bs ≡ true → (b .lo < b .hi) × (b .hi < n)) → (b : Bond) → hasBond b bs ≡ true → Low b
-  low-in bs f b h = let (u, v) = f b h in let k = R .few in (u, omega arith)
+  -- the marking's bonds and the transition's
+  abbrev all : List Bond
+  all = puts sameBond lessBond (arcsBonds t) (bondsOf m)
 
-  pub fits : (side : List Bond) → ((b : Bond) → hasBond b side ≡ true → (b .lo < b .hi) × (b .hi < n)) → HasRoom side m
-  fits side f = record { order = in-order n t m R; low = low-in (bondsOf m) (R .range); comes = low-in side f }
+  pub fits : (side : List Bond) → ((b : Bond) → hasBond b side ≡ true → hasBond b (arcsBonds t) ≡ true) → HasRoom side m
+  fits side f = record {
+    order = in-order n t m R;
+    room = few-here n t m R (puts sameBond lessBond side (bondsOf m)) (ascending-puts sameBond lessBond bond-order side (bondsOf m) (R .order))
+        (puts-among side (bondsOf m) all (λ b h. puts-left (arcsBonds t) (bondsOf m) b (f b h)) (puts-right (arcsBonds t) (bondsOf m)));
+  }
 
-  ready-with : (bs : List Bond) → Ascending sameBond lessBond bs → ((b : Bond) → hasBond b bs ≡ true → (b .lo < b .hi) × (b .hi < n)) → Ready n t (withBonds m bs)
-  ready-with bs o r =
+  ready-with : (bs : List Bond) → Ascending sameBond lessBond bs → ((b : Bond) → hasBond b bs ≡ true → (b .lo < b .hi) × (b .hi < n)) → ((b : Bond) → hasBond b bs ≡ true → hasBond b all ≡ true) → Ready n t (withBonds m bs)
+  ready-with bs o r h =
       let e : bs ≡ bondsOf (withBonds m bs) = sym (bonds-with m bs) in
       record {
         few = R .few;
@@ -52,19 +57,25 @@ module _ (n : ℕ) (t : Arcs) (m : Marking) (R : Ready n t m) where
         bases = R .bases;
         outs = R .outs;
         ins = R .ins;
+        room = subst (λ (cs : List Bond). length (puts sameBond lessBond (arcsBonds t) cs) ≤ maxBonds) e (few-here n t m R (puts sameBond lessBond (arcsBonds t) bs)
+            (ascending-puts sameBond lessBond bond-order (arcsBonds t) bs o) (puts-among (arcsBonds t) bs all (puts-left (arcsBonds t) (bondsOf m)) h));
       }
 
   -- some bonds taken out
   pub ready-cut : (g : Bond → Bool) (cut : Marking) → cut ≡ withBonds m (keep g (bondsOf m)) → Ready n t cut
   ready-cut g cut q = subst (Ready n t) (sym q) (ready-with (keep g (bondsOf m)) (ascending-keep sameBond lessBond bond-order g (bondsOf m) (R .order))
-      (λ b h. R .range b (and-l (hasBond b (bondsOf m)) (g b) (sym (has-keep sameBond lessBond bond-order g b (bondsOf m)) ∙ h))))
-
-  -- some bonds put in
-  pub ready-put : (cs : List Bond) → ((b : Bond) → hasBond b cs ≡ true → (b .lo < b .hi) × (b .hi < n)) → (z : Marking) → z ≡ withBonds m (puts sameBond lessBond cs (bondsOf m)) → Ready n t z
-  ready-put cs f z q = subst (Ready n t) (sym q) (ready-with (puts sameBond lessBond cs (bondsOf m)) (ascending-puts sameBond lessBond bond-order cs (bondsOf m) (R .order)) all)
+      (λ b h. R .range b (old b h)) (λ b h. puts-right (arcsBonds t) (bondsOf m) b (old b h)))
     where
-      all : (b : Bond) → hasBond b (puts sameBond lessBond cs (bondsOf m)) ≡ true → (b .lo < b .hi) × (b .hi < n)
-      all b h = go (or-e (hasBond b cs) (hasBond b (bondsOf m)) (sym (has-puts sameBond lessBond bond-order b cs (bondsOf m)) ∙ h))
+      old : (b : Bond) → hasBond b (keep g (bondsOf m)) ≡ true → hasBond b (bondsOf m) ≡ true
+      old b h = and-l (hasBond b (bondsOf m)) (g b) (sym (has-keep sameBond lessBond bond-order g b (bondsOf m)) ∙ h)
+
+  -- some bonds of the transition put in
+  pub ready-put : (cs : List Bond) → ((b : Bond) → hasBond b cs ≡ true → (b .lo < b .hi) × (b .hi < n)) → ((b : Bond) → hasBond b cs ≡ true → hasBond b (arcsBonds t) ≡ true) → (z : Marking) → z ≡ withBonds m (puts sameBond lessBond cs (bondsOf m)) → Ready n t z
+  ready-put cs f own z q = subst (Ready n t) (sym q) (ready-with (puts sameBond lessBond cs (bondsOf m)) (ascending-puts sameBond lessBond bond-order cs (bondsOf m) (R .order)) low
+      (puts-among cs (bondsOf m) all (λ b h. puts-left (arcsBonds t) (bondsOf m) b (own b h)) (puts-right (arcsBonds t) (bondsOf m))))
+    where
+      low : (b : Bond) → hasBond b (puts sameBond lessBond cs (bondsOf m)) ≡ true → (b .lo < b .hi) × (b .hi < n)
+      low b h = go (or-e (hasBond b cs) (hasBond b (bondsOf m)) (sym (has-puts sameBond lessBond bond-order b cs (bondsOf m)) ∙ h))
         where
           go : (hasBond b cs ≡ true) ⊎ (hasBond b (bondsOf m) ≡ true) → (b .lo < b .hi) × (b .hi < n)
           go (inl k) = f b k
@@ -126,7 +137,7 @@ module _ (n : ℕ) (t : Arcs) (m : Marking) (R : Ready n t m) where
       → two ≡ withBonds one (puts sameBond lessBond (keep (goesIn t true) (t .outBonds)) (bondsOf one)) → (two ≡ withBonds m (bondsSeen t (bondsOf m))) × Ready n t two
   fired-bonds one two p q =
       let q′ : two ≡ withBonds one (puts sameBond lessBond (t .outBonds) (bondsOf one)) = q ∙ ap (λ (cs : List Bond). withBonds one (puts sameBond lessBond cs (bondsOf one))) (all-out t (t .outBonds)) in
-      (changed m one two (λ (b : Bond). not (brokenBond t b)) (t .outBonds) p q′, ready-put n t one (ready-cut n t m R (λ (b : Bond). not (brokenBond t b)) one p) (t .outBonds) (R .outs) two q′)
+      (changed m one two (λ (b : Bond). not (brokenBond t b)) (t .outBonds) p q′, ready-put n t one (ready-cut n t m R (λ (b : Bond). not (brokenBond t b)) one p) (t .outBonds) (R .outs) (has-right (t .inBonds) (t .outBonds)) two q′)
 
   -- where none went, the bonds are those before with the out-bonds
   pub fired-whole : (one two : Marking) → one ≡ withBonds m (keep (λ (b : Bond). not (brokenBond t b)) (bondsOf m))
@@ -140,8 +151,11 @@ module _ (n : ℕ) (t : Arcs) (m : Marking) (R : Ready n t m) where
   undone-bonds one two p q = (
     changed m one two (λ (b : Bond). not (newBond t b)) (keep (brokenBond t) (t .inBonds)) p q,
     ready-put n t one (ready-cut n t m R (λ (b : Bond). not (newBond t b)) one p) (keep (brokenBond t) (t .inBonds))
-        (λ b h. R .ins b (and-l (hasBond b (t .inBonds)) (brokenBond t b) (sym (has-keep sameBond lessBond bond-order (brokenBond t) b (t .inBonds)) ∙ h))) two q,
+        (λ b h. R .ins b (broken b h)) (λ b h. has-left (t .inBonds) (t .outBonds) b (broken b h)) two q,
   )
+    where
+      broken : (b : Bond) → hasBond b (keep (brokenBond t) (t .inBonds)) ≡ true → hasBond b (t .inBonds) ≡ true
+      broken b h = and-l (hasBond b (t .inBonds)) (brokenBond t b) (sym (has-keep sameBond lessBond bond-order (brokenBond t) b (t .inBonds)) ∙ h)
 
   -- where none went and none is broken, they are as before
   pub undone-whole : (one two : Marking) → one ≡ withBonds m (keep (λ (b : Bond). not (newBond t b)) (bondsOf m)) → two ≡ withBonds m (bondsBack t (bondsOf m))

@@ -10,7 +10,7 @@ use lib.ListN.{List·getD-eq-default}
 use Rattle.causal.specs.Lists.{Mem}
 use Rattle.causal.proofs.Tests.{test, both}
 use Rattle.net.specs.Tests.{any, keep, table}
-use Rattle.net.specs.Net.{Arcs, Marking, Net, bond, sameBond, lessBond, hasBond, place}
+use Rattle.net.specs.Net.{Arcs, Marking, Net, bond, sameBond, lessBond, hasBond, place, written}
 use Rattle.net.specs.Connection.{connected, label}
 use Rattle.net.specs.Marking.{Good}
 use Rattle.net.specs.Firing.{moves, moved, brokenBond, bondsSeen, misplaced, bondAbsent, bondPresent, tornApart, sent, fire}
@@ -24,6 +24,7 @@ use Rattle.net.proofs.Connection.{leads-label, bond-leads, connected-al
 use Rattle.net.proofs.Moves.{sent-cong, sent-none, sent-is, sent-on, sent-below, Fit, view, see, seen-place, seen-first, seen-second, seen-bonded, entry-moves, closed, moves-range, in-moves, out-moves}
 use Rattle.net.proofs.Change.{has-after, after-e, closed-after, none-after, moves-after}
 use Rattle.net.proofs.Uncoupling.{torn-no}
+use Rattle.net.proofs.Written.{has-right}
 
 module _ (net : Net) (s : Marking) (G : Good net s) (t : Arcs) (F : Fit net t) where
   pub place-fire : (p : ℕ) → place (fire (net .bases) t s) p ≡ sent (λ (e : Entry). e .to) (bondsSeen t (s .bonds)) (t .entries) p (place s p)
@@ -55,6 +56,10 @@ module _ (net : Net) (s : Marking) (G : Good net s) (t : Arcs) (F : Fit net t) w
   fire-range b (inl h) = let (u, v) = out-moves net s G t F b h in (F .low b h, moves-range net s G t F (b .hi) v)
   fire-range b (inr h) = G .range b h
 
+  fire-listed : (b : Bond) → (hasBond b (t .outBonds) ≡ true) ⊎ (hasBond b (s .bonds) ≡ true) → hasBond b (written net) ≡ true
+  fire-listed b (inl h) = F .listed b (has-right (t .inBonds) (t .outBonds) b h)
+  fire-listed b (inr h) = G .listed b h
+
   fire-within : (p : ℕ) → p < net .bases → place (fire (net .bases) t s) p < net .places
   fire-within p h = rw (place-fire p) (sent-below (λ (e : Entry). e .to) (bondsSeen t (s .bonds)) (t .entries) p (place s p) (net .places) (F .to) (G .within p h))
 
@@ -66,6 +71,7 @@ module _ (net : Net) (s : Marking) (G : Good net s) (t : Arcs) (F : Fit net t) w
         (ascending-keep sameBond lessBond bond-order (λ (b : Bond). not (brokenBond t b)) (s .bonds) (G .order));
     range = λ b h. fire-range b (after-e t (s .bonds) b h);
     share = fire-share;
+    listed = λ b h. fire-listed b (after-e t (s .bonds) b h);
   }
 
 module _ (net : Net) (s : Marking) (G : Good net s) (t : Arcs) (F : Fit net t) (way : tornApart t s ≡ false) where

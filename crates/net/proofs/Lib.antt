@@ -4,6 +4,7 @@ pub mod Tables
 pub mod Firsts
 pub mod Sorted
 pub mod Bonds
+pub mod Written
 pub mod Connection
 pub mod Moves
 pub mod Change

@@ -10,7 +10,7 @@ use Rattle.causal.specs.Lists.{Mem}
 use Rattle.causal.proofs.Tests.{both}
 use Rattle.net.specs.Tests.{pick}
 use Rattle.net.specs.Sorted.{Ascending}
-use Rattle.net.specs.Net.{Arcs, Marking, Net, bond, sameBond, lessBond, hasBond, place}
+use Rattle.net.specs.Net.{Arcs, Marking, Net, bond, sameBond, lessBond, hasBond, place, arcsBonds, written}
 use Rattle.net.specs.Connection.{bonded, Leads, here, along, connected}
 use Rattle.net.specs.Marking.{Good}
 use Rattle.net.specs.Firing.{inSet, moves, sent, moved}
@@ -77,6 +77,7 @@ pub record Fit (net : Net) (t : Arcs) : Type 0 where
   pub outs : (b : Bond) → hasBond b (t .outBonds) ≡ true → (e : Entry) × (d : Entry) × Joins t b e d × (e .to ≡ d .to)
   pub low : (b : Bond) → hasBond b (t .outBonds) ≡ true → b .lo < b .hi
   pub rising : Ascending sameBond lessBond (t .outBonds)
+  pub listed : (b : Bond) → hasBond b (arcsBonds t) ≡ true → hasBond b (written net) ≡ true
 
 -- What is seen at a base: its place, and its bonds.
 abbrev pub Seen : Type 0

@@ -1,6 +1,7 @@
 -- A list without repeats, inside another, is no longer than it; so bonds in strict order, of bases of the net, are at most
 -- as many as there are pairs of bases. Assumes nothing.
 use mathlib.Core.Path.{_≡_, refl, sym, _∙_, ap}
+use mathlib.Core.Bool.{true}
 use mathlib.Core.Logic.{_⊎_, inl, inr}
 use mathlib.Core.List.{List, [], _∷_, _++_}
 use Prim.Native.Nat.{ℕ, zero, suc, _+_, _*_, _-_, _<_, _≤_}
@@ -14,12 +15,12 @@ use Rattle.causal.proofs.Tests.{test, both}
 use Rattle.causal.proofs.Lists.{mem-unskip, mem-left, mem-right, mem-split}
 use Rattle.net.specs.Tests.{table}
 use Rattle.net.specs.Sorted.{Ascending}
-use Rattle.net.specs.Net.{Marking, Net, bond, sameBond, lessBond}
+use Rattle.net.specs.Net.{Marking, Net, bond, sameBond, lessBond, hasBond, written}
 use Rattle.net.specs.Marking.{Good}
 use Rattle.net.specs.declared.Bond.{Bond}
 use Rattle.net.proofs.Claimed.{FewBonds}
 use Rattle.net.proofs.Tables.{length-table}
-use Rattle.net.proofs.Bonds.{bond-order, mem-has}
+use Rattle.net.proofs.Bonds.{bond-order, has-mem, mem-has}
 
 -- ---- any list
 
@@ -76,10 +77,19 @@ ascending-distinct : (bs : List Bond) → Ascending sameBond lessBond bs → Dis
 ascending-distinct [] p = tt
 ascending-distinct (b ∷ bs) p = ((λ c m e. both (lessBond b b) (ap (lessBond b) (sym e) ∙ p .0 c (mem-has bs c m)) (bond-order .irrefl b)), ascending-distinct bs (p .1))
 
--- The bonds of a good marking.
-pub few-bonds : (net : Net) (s : Marking) → Good net s → FewBonds net s
-few-bonds net s g =
-    let k : length (s .bonds) ≤ length (pairs (net .bases)) =
-    no-longer (s .bonds) (pairs (net .bases)) (ascending-distinct (s .bonds) (g .order)) (λ b m. let (l, h) = g .range b (mem-has (s .bonds) b m) in mem-pairs (net .bases) b l h) in
-    let c = pairs-count (net .bases) in
+-- Bonds in strict order, each among others, are no more than those.
+pub few-among : (bs cs : List Bond) → Ascending sameBond lessBond bs → ((b : Bond) → hasBond b bs ≡ true → hasBond b cs ≡ true) → length bs ≤ length cs
+few-among bs cs o h = no-longer bs cs (ascending-distinct bs o) (λ b m. has-mem cs b (h b (mem-has bs b m)))
+
+-- The bonds of a good marking: no more than the net writes (02, T-10), and no more than there are pairs of bases.
+pub few-written : (net : Net) (s : Marking) → Good net s → length (s .bonds) ≤ length (written net)
+few-written net s g = few-among (s .bonds) (written net) (g .order) (g .listed)
+
+pub few-pairs : (n : ℕ) (bs : List Bond) → Ascending sameBond lessBond bs → ((b : Bond) → hasBond b bs ≡ true → (b .lo < b .hi) × (b .hi < n)) → 2 * length bs ≤ n * (n - 1)
+few-pairs n bs o r =
+    let k : length bs ≤ length (pairs n) = no-longer bs (pairs n) (ascending-distinct bs o) (λ b m. let (l, h) = r b (mem-has bs b m) in mem-pairs n b l h) in
+    let c = pairs-count n in
     omega arith
+
+pub few-bonds : (net : Net) (s : Marking) → Good net s → FewBonds net s
+few-bonds net s g = few-pairs (net .bases) (s .bonds) (g .order) (g .range)

@@ -10,7 +10,7 @@ use borrow.Author.Tests.{eqb-true, ltb-true}
 use Rattle.causal.specs.Lists.{Mem}
 use Rattle.net.specs.Tests.{all, any}
 use Rattle.net.specs.Sorted.{ascends}
-use Rattle.net.specs.Net.{Arcs, Net, sameBond, lessBond, hasBond, noArcs, arcsOf}
+use Rattle.net.specs.Net.{Arcs, Net, sameBond, lessBond, hasBond, noArcs, arcsOf, arcsBonds, written}
 use Rattle.net.specs.Rules.{startPlacesRule, startBondRule, startBondsRule, entryRule, entriesRule, joins, bondsRule, arcsBondsRule, arcsRule, netRule}
 use Rattle.net.specs.Marking.{Good}
 use Rattle.net.specs.declared.Bond.{Bond}
@@ -20,6 +20,7 @@ use Rattle.net.proofs.Tests.{and-l, and-r, all-e, any-e, all-at}
 use Rattle.net.proofs.Sorted.{ascends-all}
 use Rattle.net.proofs.Bonds.{bond-order, has-mem}
 use Rattle.net.proofs.Moves.{Joins, Fit}
+use Rattle.net.proofs.Written.{arcs-written, start-written}
 
 -- ---- a transition
 
@@ -45,8 +46,8 @@ joins-e side t b h =
 pub rule-joins : (side : Entry → ℕ) (es : List Entry) (bs : List Bond) → bondsRule side es bs ≡ true → (b : Bond) → hasBond b bs ≡ true → joins side es b ≡ true
 rule-joins side es bs h b k = all-e (joins side es) bs (and-r (ascends lessBond bs) (all (joins side es) bs) h) b (has-mem bs b k)
 
-pub arcs-fit : (net : Net) (t : Arcs) → arcsRule (net .places) (net .bases) t ≡ true → Fit net t
-arcs-fit net t h =
+pub arcs-fit : (net : Net) (t : Arcs) → arcsRule (net .places) (net .bases) t ≡ true → ((b : Bond) → hasBond b (arcsBonds t) ≡ true → hasBond b (written net) ≡ true) → Fit net t
+arcs-fit net t h w =
     let rest = and-r (ltb 0 (length (t .entries))) (entriesRule (net .places) (net .bases) (t .entries) && arcsBondsRule t) h in
     let entries : entriesRule (net .places) (net .bases) (t .entries) ≡ true = and-l _ _ rest in
     let bonds : arcsBondsRule t ≡ true = and-r (entriesRule (net .places) (net .bases) (t .entries)) _ rest in
@@ -64,6 +65,7 @@ arcs-fit net t h =
       outs = λ b k. joins-e (λ (x : Entry). x .to) t b (rule-joins (λ (x : Entry). x .to) (t .entries) (t .outBonds) outs b k);
       low = λ b k. ltb-true (b .lo) (b .hi) (and-l _ _ (rule-joins (λ (x : Entry). x .to) (t .entries) (t .outBonds) outs b k));
       rising = ascends-all sameBond lessBond bond-order (t .outBonds) (and-l _ _ outs);
+      listed = w;
     }
 
 -- ---- the net
@@ -73,7 +75,7 @@ module _ (net : Net) (ok : netRule net ≡ true) where
   bonds-ok = and-r (startPlacesRule (net .places) (net .bases) (net .start .places)) _ ok
 
   pub fits : (t : Transition) → t .0 < length (net .transitions) → Fit net (arcsOf net t)
-  fits t h = arcs-fit net (arcsOf net t) (all-at (arcsRule (net .places) (net .bases)) (net .transitions) noArcs (t .0) (and-r (startBondsRule (net .bases) (net .start)) _ bonds-ok) h)
+  fits t h = arcs-fit net (arcsOf net t) (all-at (arcsRule (net .places) (net .bases)) (net .transitions) noArcs (t .0) (and-r (startBondsRule (net .bases) (net .start)) _ bonds-ok) h) (λ b. arcs-written net t b h)
 
   pub start-good : Good net (net .start)
   start-good =
@@ -88,4 +90,5 @@ module _ (net : Net) (ok : netRule net ≡ true) where
         order = ascends-all sameBond lessBond bond-order (net .start .bonds) (and-l _ _ bonds);
         range = λ b k. (ltb-true (b .lo) (b .hi) (and-l _ _ (each b k)), ltb-true (b .hi) (net .bases) (and-l _ _ (and-r (ltb (b .lo) (b .hi)) _ (each b k))));
         share = λ b k. eqb-true _ _ (and-r (ltb (b .hi) (net .bases)) _ (and-r (ltb (b .lo) (b .hi)) _ (each b k)));
+        listed = λ b k. start-written net b k;
       }

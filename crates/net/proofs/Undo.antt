@@ -12,7 +12,7 @@ use borrow.Author.Tests.{eqb-true, not-false}
 use Rattle.causal.specs.Lists.{Mem}
 use Rattle.causal.proofs.Tests.{test, both}
 use Rattle.net.specs.Tests.{pick, keep}
-use Rattle.net.specs.Net.{Arcs, Marking, Net, bond, sameBond, lessBond, hasBond, place}
+use Rattle.net.specs.Net.{Arcs, Marking, Net, bond, sameBond, lessBond, hasBond, place, written}
 use Rattle.net.specs.Connection.{connected}
 use Rattle.net.specs.Marking.{Good}
 use Rattle.net.specs.Firing.{inSet, moves, moved, brokenBond, misplaced, bondAbsent, bondPresent, sent, fire, newBond, bondsBack, undo}
@@ -25,6 +25,7 @@ use Rattle.net.proofs.Bonds.{bond-order, has-mem}
 use Rattle.net.proofs.Connection.{connected-leads, connected-alike}
 use Rattle.net.proofs.Moves.{sent-is, sent-below, Fit, view, see, seen-first, seen-second, entry-moves, closed, moves-range, mem-moved, in-moves, out-moves, leads-share}
 use Rattle.net.proofs.Fire.{has-fire}
+use Rattle.net.proofs.Written.{has-left}
 
 -- what is there before the firing, from what is there after it: o out-bond, i in-bond, h there before
 undo-test : (o i h : Bool) → (o ≡ true → (not i && h) ≡ false) → (i ≡ true → not h ≡ false)
@@ -117,6 +118,10 @@ module _ (net : Net) (s : Marking) (G : Good net s) (t : Arcs) (F : Fit net t) (
       (F .lowIn b i, moves-range net s G t F (b .hi) (in-moves net s G t F b i .1))
   undo-range b (inr h) = H .range b (and-l (hasBond b (y .bonds)) (not (newBond t b)) h)
 
+  undo-listed : (b : Bond) → ((hasBond b (t .inBonds) && brokenBond t b) ≡ true) ⊎ ((hasBond b (y .bonds) && not (newBond t b)) ≡ true) → hasBond b (written net) ≡ true
+  undo-listed b (inl h) = F .listed b (has-left (t .inBonds) (t .outBonds) b (and-l (hasBond b (t .inBonds)) (brokenBond t b) h))
+  undo-listed b (inr h) = H .listed b (and-l (hasBond b (y .bonds)) (not (newBond t b)) h)
+
   pub undo-good : Good net u
   undo-good = record {
     size = length-table (net .bases) (λ p. pick (inSet (moved (net .bases) t s) p) (sent (λ (e : Entry). e .from) (u .bonds) (t .entries) p (place y p)) (place y p));
@@ -125,4 +130,5 @@ module _ (net : Net) (s : Marking) (G : Good net s) (t : Arcs) (F : Fit net t) (
         (ascending-keep sameBond lessBond bond-order (λ (b : Bond). not (newBond t b)) (y .bonds) (H .order));
     range = λ b h. undo-range b (or-e (hasBond b (t .inBonds) && brokenBond t b) (hasBond b (y .bonds) && not (newBond t b)) (sym (has-undo b) ∙ h));
     share = undo-share;
+    listed = λ b h. undo-listed b (or-e (hasBond b (t .inBonds) && brokenBond t b) (hasBond b (y .bonds) && not (newBond t b)) (sym (has-undo b) ∙ h));
   }

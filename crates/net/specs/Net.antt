@@ -1,7 +1,7 @@
 -- The net that a sheet describes (01, the sheet): places, bases, bonds, transitions, the start.
 -- Definitions only. Bonds and entries are the structs of src/lib.rt.
 use mathlib.Core.Bool.{Bool, _&&_, _||_}
-use mathlib.Core.List.{List, []}
+use mathlib.Core.List.{List, [], _∷_, _++_}
 use Prim.Native.Nat.{ℕ}
 use lib.Dec.{eqb, ltb}
 use lib.ListN.{getD}
@@ -49,6 +49,17 @@ noArcs = record { entries = []; inBonds = []; outBonds = [] }
 -- the arcs of a transition; none where its number is not on the sheet
 abbrev pub arcsOf : Net → Transition → Arcs
 arcsOf net t = getD (net .transitions) (t .0) noArcs
+
+-- Every bond that the net writes: those of the start, then those of each transition (02, T-10: no other can occur).
+abbrev pub arcsBonds : Arcs → List Bond
+arcsBonds t = t .inBonds ++ t .outBonds
+
+abbrev pub allBonds : List Arcs → List Bond
+allBonds [] = []
+allBonds (t ∷ ts) = arcsBonds t ++ allBonds ts
+
+abbrev pub written : Net → List Bond
+written net = net .start .bonds ++ allBonds (net .transitions)
 
 -- the place of a base
 abbrev pub place : Marking → ℕ → ℕ

@@ -129,6 +129,7 @@ no-fit net = record {
   outs = λ b h. both false h refl;
   low = λ b h. both false h refl;
   rising = tt;
+  listed = λ b h. both false h refl;
 }
 
 module _ (net : Net) (s : Marking) (G : Good net s) where

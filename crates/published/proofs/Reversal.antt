@@ -52,6 +52,7 @@ cut-good net a y H = record {
   order = ascending-keep sameBond lessBond bond-order (λ (b : Bond). not (newBond a b)) (y .bonds) (H .order);
   range = λ b h. H .range b (was-uncut a y b h);
   share = λ b h. H .share b (was-uncut a y b h);
+  listed = λ b h. H .listed b (was-uncut a y b h);
 }
 
 module _ (net : Net) (ok : netRule net ≡ true) (t : Transition) (h : t .0 < length (net .transitions)) (y : Marking) where

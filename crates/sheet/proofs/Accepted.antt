@@ -21,12 +21,13 @@ use Rattle.net.specs.declared.Bond.{Bond}
 use Rattle.net.specs.declared.Transition.{Transition}
 use Rattle.net.proofs.Tests.{and-l, and-r, or-no-l, or-no-r, all-e, all-at, all-append}
 use Rattle.format.specs.Bytes.{outside, headerWidth, bondWidth}
-use Rattle.format.specs.Parts.{placesOf, basesOf, transitionsOf, startPlaces, startBonds, transitionBytes}
+use Rattle.format.specs.Parts.{placesOf, basesOf, transitionsOf, pairsOf, startPlaces, startBonds, transitionBytes}
 use Rattle.format.specs.NetOf.{startMarking, netOf}
-use Rattle.sheet_head.specs.Conditions.{wrongSize, wrongCounts, wrongStartPlaces, wrongStartBonds}
+use Rattle.sheet_head.specs.Conditions.{wrongSize, wrongCounts, partsBegin, follow, wrongPairs, wrongStartPlaces, wrongStartBonds}
 use Rattle.sheet.specs.Checks.{headChecks, transitionChecks, checksFrom, sheetChecks, checked}
 use Rattle.sheet.specs.Promises.{BondWithin, arcsAt, GoodArcs, Promised}
 use Rattle.sheet.specs.declared.SheetAnswer.the-variants.{Accepted, Refused}
+use Rattle.sheet.proofs.Written.{written-bytes}
 use Rattle.sheet.proofs.Arcs.{within, all-table, arcs-rule, good-arcs}
 
 abbrev off : Check → Bool
@@ -119,6 +120,10 @@ module _ (s : List ℕ) (h : clear (sheetChecks s) ≡ true) where
   unfolding wrongSize
   small = ltb-false maxSheet (length s) (or-no-r (ltb (length s) headerWidth) _ (head-at 0 (omega arith)))
 
+  pairs : follow s (partsBegin s) 0 (pairsOf s) ≡ true
+  unfolding wrongPairs
+  pairs = not-false _ (or-no-r (ltb (length s) (partsBegin s)) _ (head-at 3 (omega arith)))
+
   -- What is promised of a sheet of which no check holds.
   pub promised : Promised s
   promised = record {
@@ -127,6 +132,7 @@ module _ (s : List ℕ) (h : clear (sheetChecks s) ≡ true) where
     places = within (placesOf s) maxPlaces (or-no-l (outside (placesOf s) maxPlaces) _ counts);
     bases = within (basesOf s) maxBases (or-no-l (outside (basesOf s) maxBases) _ rest);
     transitions = within (transitionsOf s) maxTransitions (or-no-r (outside (basesOf s) maxBases) _ rest);
+    bonds = written-bytes s pairs (λ t i. at-transition t 0 i (omega arith));
     startSize = start-size;
     startPlace = start-place;
     startOrder = and-l (ascends lessBond (startMarking s .bonds)) _ start-bonds;

@@ -2,17 +2,18 @@
 -- Definitions only; proofs/Accepted has the theorem.
 use mathlib.Core.Path.{_≡_}
 use mathlib.Core.Bool.{true}
-use Prim.Native.Nat.{ℕ, _<_, _≤_}
+use Prim.Native.Nat.{ℕ, _*_, _<_, _≤_}
 use mathlib.Core.List.{List}
 use lib.ListN.{length}
 use Rattle.causal.specs.Lists.{Mem}
 use Rattle.net.specs.Limits.{maxSheet, maxPlaces, maxBases, maxTransitions, maxEntries}
 use Rattle.net.specs.Sorted.{ascends}
-use Rattle.net.specs.Net.{Arcs, lessBond, place}
+use Rattle.net.specs.Net.{Arcs, lessBond, written, place}
 use Rattle.net.specs.Rules.{netRule}
 use Rattle.net.specs.declared.Transition.{Transition}
 use Rattle.net.specs.declared.Bond.{Bond}
 use Rattle.net.specs.declared.Entry.{Entry}
+use Rattle.format.specs.Bytes.{bondWidth}
 use Rattle.format.specs.Parts.{placesOf, basesOf, transitionsOf, transitionBytes}
 use Rattle.format.specs.Arcs.{arcsIn}
 use Rattle.format.specs.NetOf.{startMarking, netOf}
@@ -44,6 +45,8 @@ pub record Promised (s : List ℕ) : Type 0 where
   pub places : Within (placesOf s) maxPlaces
   pub bases : Within (basesOf s) maxBases
   pub transitions : Within (transitionsOf s) maxTransitions
+  -- every bond that can occur is written, each in bytes of its own (02, T-10)
+  pub bonds : bondWidth * length (written (netOf s)) ≤ length s
   -- the start
   pub startSize : length (startMarking s .places) ≡ basesOf s
   pub startPlace : (p : ℕ) → p < basesOf s → place (startMarking s) p < placesOf s

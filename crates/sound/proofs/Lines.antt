@@ -88,6 +88,7 @@ placed-ready s m P = record {
   bases = λ e h. absurd h;
   outs = λ b h. both false h refl;
   ins = λ b h. both false h refl;
+  room = rw (← length-table (m .count) (ends (m .lo) (m .hi))) at (placed-room s m P);
 }
 
 -- what labels of its bonds ask: they fit, and their ends are below the limit

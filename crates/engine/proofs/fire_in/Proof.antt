@@ -2,6 +2,7 @@
 -- Assumes nothing but the laws of proofs/.
 use borrow.Author.Needs.{needs}
 use Rattle.net.specs.Firing.{brokenBond}
+use Rattle.net.proofs.Written.{has-right}
 use Rattle.format.specs.Arcs.{arcsIn}
 use Rattle.marking.specs.declared.Marking.{Marking}
 use Rattle.marking.specs.Held.{holding}
@@ -30,7 +31,8 @@ put-bonds-requires : tie.Need-put-bonds-requires
 put-bonds-requires c κs =
     let a : tie.After-take-broken = c .before .before in
     let s = start a in
-    side-room (s .args .n) (s .args .step .now) (m s) (s .pre .0) (brokenBond (arcsIn (s .args .step .now))) _ (a .take-broken .ensures) (arcsIn (s .args .step .now) .outBonds) (s .pre .0 .outs)
+    let t = arcsIn (s .args .step .now) in
+    side-room (s .args .n) (s .args .step .now) (m s) (s .pre .0) (brokenBond (arcsIn (s .args .step .now))) _ (a .take-broken .ensures) (t .outBonds) (has-right (t .inBonds) (t .outBonds))
 
 label-fired-requires : tie.Need-label-fired-requires
 label-fired-requires c κs =

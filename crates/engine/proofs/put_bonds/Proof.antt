@@ -34,7 +34,7 @@ bond-count-requires c κs = search needs
 loop-holds : tie.Need-loop-holds Inv-loop μ-loop
 loop-holds c = let e = c .bond-count .ensures in let s = c .before .before in (
   omega arith,
-  held-none (m s) (s .pre .order) (s .pre .low) (bondCount (s .args .step .now) (s .args .out)) (nthBond (s .args .step .now) (s .args .out)) (s .pre .comes) (goesIn (arcsIn (s .args .step .now)) (s .args .out)) (c .bond-count .result) e,
+  held-none (m s) (s .pre .order) (bondCount (s .args .step .now) (s .args .out)) (nthBond (s .args .step .now) (s .args .out)) (s .pre .room) (goesIn (arcsIn (s .args .step .now)) (s .args .out)) (c .bond-count .result) e,
 )
 
 sub-left : tie.Need-sub-left Inv-loop μ-loop
@@ -48,7 +48,7 @@ put-in-requires c κs =
     let b : tie.After-nth-bond Inv-loop μ-loop = c .before .before in
     let at = b .before .before in
     let s = at .before .before .before in
-    add-asks (m s) (s .pre .order) (s .pre .low) (bondCount (s .args .step .now) (s .args .out)) (nthBond (s .args .step .now) (s .args .out)) (s .pre .comes) (goesIn (arcsIn (s .args .step .now)) (s .args .out)) (at .loop .left)
+    add-asks (m s) (s .pre .order) (bondCount (s .args .step .now) (s .args .out)) (nthBond (s .args .step .now) (s .args .out)) (s .pre .room) (goesIn (arcsIn (s .args .step .now)) (s .args .out)) (at .loop .left)
     (omega arith) (omega arith) _ (at .loop .inv .1) _ (b .nth-bond .ensures)
 
 loop-less : tie.Need-loop-less Inv-loop μ-loop
@@ -60,13 +60,13 @@ loop-again c =
     let at = b .before .before in
     let s = at .before .before .before in (
       omega arith,
-      add-gives (m s) (s .pre .order) (s .pre .low) (bondCount (s .args .step .now) (s .args .out)) (nthBond (s .args .step .now) (s .args .out)) (s .pre .comes) (goesIn (arcsIn (s .args .step .now)) (s .args .out))
+      add-gives (m s) (s .pre .order) (bondCount (s .args .step .now) (s .args .out)) (nthBond (s .args .step .now) (s .args .out)) (s .pre .room) (goesIn (arcsIn (s .args .step .now)) (s .args .out))
           (at .loop .left) (omega arith) (omega arith) _ (at .loop .inv .1) _ (b .nth-bond .ensures) _ (c .put-in .ensures),
     )
 
 returns : tie.Need-returns Inv-loop μ-loop
 returns c = let s = c .before .before .before .before in
-    held-all (m s) (s .pre .order) (s .pre .low) (bondCount (s .args .step .now) (s .args .out)) (nthBond (s .args .step .now) (s .args .out)) (s .pre .comes) (goesIn (arcsIn (s .args .step .now)) (s .args .out)) (c .before .loop .left)
+    held-all (m s) (s .pre .order) (bondCount (s .args .step .now) (s .args .out)) (nthBond (s .args .step .now) (s .args .out)) (s .pre .room) (goesIn (arcsIn (s .args .step .now)) (s .args .out)) (c .before .loop .left)
     _ (omega arith) (c .before .loop .inv .1)
 
 pub put-bonds-spec : {M : Type 1} → statement M

@@ -1,6 +1,7 @@
 -- `engine::undo_in` meets its contract.
 -- Assumes nothing but the laws of proofs/.
 use borrow.Author.Needs.{needs}
+use Rattle.net.proofs.Written.{has-left}
 use Rattle.format.specs.Arcs.{arcsIn}
 use Rattle.marking.specs.declared.Marking.{Marking}
 use Rattle.marking.specs.Held.{holding}
@@ -33,7 +34,7 @@ put-broken-requires c κs =
     let a : tie.After-take-bonds = c .before .before in
     let s = start a in
     let t = arcsIn (s .args .step .now) in
-    (side-room (s .args .n) (s .args .step .now) (m s) (s .pre .0) (newBond t) _ (a .take-bonds .ensures) (t .inBonds) (s .pre .0 .ins), looked a .breaks-none .ensures)
+    (side-room (s .args .n) (s .args .step .now) (m s) (s .pre .0) (newBond t) _ (a .take-bonds .ensures) (t .inBonds) (has-left (t .inBonds) (t .outBonds)), looked a .breaks-none .ensures)
 
 relabel-requires : tie.Need-relabel-requires
 relabel-requires c κs =
