@@ -39,7 +39,8 @@ use Rattle.claims.specs.Uncoupling.{CommandFires22, CommandTakesBack24, 
 use Rattle.claims.specs.Published.{FollowsPublished}
 use Rattle.claims.specs.Demands.{Demand3, SessionTotals}
 use Rattle.claims.proofs.Records.{answer-is, journal-is}
-use Rattle.claims.proofs.Published.{holds, session-passes}
+use Rattle.claims.proofs.Sessions.{holds}
+use Rattle.claims.proofs.Published.{session-passes}
 use Rattle.claims.proofs.Demands.{demands}
 
 -- header, pairs, start places, start couplings, transitions 0 to 5

@@ -10,6 +10,7 @@ use Rattle.claims.proofs.Sessions.{demand3}
 use Rattle.claims.proofs.Counts.{session-totals}
 use Rattle.claims.proofs.Published.{demand2-published}
 use Rattle.claims.proofs.Pages.{pages}
+use Rattle.claims.proofs.LiveList.{live-listed, booked}
 use Rattle.claims.proofs.Blocks.{blocks}
 use Rattle.claims.proofs.WayBack.{ways}
 use Rattle.claims.proofs.Lamps.{lamps-claimed}
@@ -29,6 +30,8 @@ demands = record {
   demand3 = λ s accepted. demand3 s accepted (promised s accepted .rule);
   totals = λ s accepted. session-totals s accepted (promised s accepted .rule);
   pages = pages;
+  lists = live-listed;
+  booked = λ s accepted. booked s accepted (promised s accepted .rule);
   serials = λ s accepted. serials s accepted (promised s accepted .rule);
   blocks = blocks;
   ways = ways;

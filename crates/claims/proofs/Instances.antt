@@ -1,20 +1,26 @@
 -- Document 01's sheets A and B: the premises of the demands are met. A refused sheet; and three commands on sheet B, one of each
 -- kind, that do what chapter 3 does. Assumes nothing.
-use mathlib.Core.Path.{_≡_, refl, sym, _∙_, ap, subst}
-use mathlib.Core.Bool.{true, false}
+use mathlib.Core.Path.{_≡_, refl, sym, _∙_, ap, subst, subst⁻¹}
+use mathlib.Core.Bool.{Bool, true, false}
 use mathlib.Core.List.{List, [], _∷_, _++_, map}
-use Prim.Native.Nat.{ℕ}
+use Prim.Native.Nat.{ℕ, zero, suc}
 use lib.Dec.{eqb}
 use lib.ListN.{set, take}
+use Rattle.causal.specs.Reorderings.{Independent, Reordering, Swapped, swap, under, chain}
 use Rattle.causal.proofs.Tests.{both}
+use Rattle.causal.proofs.Reorderings.{swapped-reordering}
 use Rattle.net.specs.Limits.{maxBases}
 use Rattle.net.specs.Tests.{any}
 use Rattle.net.specs.Net.{Net}
-use Rattle.net.specs.Checks.{clear}
-use Rattle.net.specs.Journal.{Journal, transition, key, begin, act, answers, play}
-use Rattle.net.specs.Cases.{netB, fireOf, undoLast, undoOf}
+use Rattle.net.specs.Checks.{Check, clear, first}
+use Rattle.net.specs.Firing.{inSet}
+use Rattle.net.specs.Journal.{LiveLine, Journal, transition, key, begin, act, answers, play}
+use Rattle.net.specs.Cases.{netB, line, fireOf, undoLast, undoOf}
 use Rattle.net.proofs.Tests.{fails}
 use Rattle.net.proofs.Checks.{clear-append}
+use Rattle.net.proofs.Keys.{up-distinct}
+use Rattle.net.proofs.Journal.{played}
+use Rattle.net.specs.declared.Key.{Key}
 use Rattle.net.specs.declared.Transition.{Transition}
 use Rattle.published.specs.Sets.{Iff, Max}
 use Rattle.published.specs.Backtracking.{BacktrackEnabled}
@@ -28,7 +34,7 @@ use Rattle.sheet.proofs.Samples.{sheetA-accepted, sheetB-accepted, sheetB-net, 
 use Rattle.command_list.specs.Commands.{commandsIn}
 use Rattle.tally.specs.declared.Tally.{Tally}
 use Rattle.way_back.specs.Ways.{wayBack}
-use Rattle.way_back.specs.Answer.{wayOf, wayChecks}
+use Rattle.way_back.specs.Answer.{wayOf, noWayBack, wayChecks}
 use Rattle.way_back.specs.declared.WayBack.{WayBack}
 use Rattle.movers.specs.Lamp.{lastMovers}
 use Rattle.listing.specs.First.{TurnsInto, listing}
@@ -46,17 +52,19 @@ use Rattle.session.specs.Ways.{wayBackChecks, wayBackOf}
 use Rattle.session.specs.Spread.{spreadChecks, spreadFor}
 use Rattle.session.specs.Listing.{listingFor}
 use Rattle.session.specs.declared.Record.{Record}
-use Rattle.session.specs.declared.StartAnswer.the-variants.{NotStarted}
+use Rattle.net.specs.declared.Verdict.the-variants.{Refused}
+use Rattle.session.proofs.Steps.{first-clear}
 use Rattle.session.proofs.Begins.{fresh-sound}
-use Rattle.claims.specs.Sessions.{sessionAfter}
+use Rattle.claims.specs.Sessions.{journalAfter, sessionAfter, ForwardRun}
 use Rattle.claims.specs.States.{marksIn, historyIn, orderIn}
 use Rattle.claims.specs.Published.{CommandFires, CommandTakesBack, RecordAsPublished, FollowsPublished}
-use Rattle.claims.specs.WayBack.{keysGiven, Smallest}
+use Rattle.claims.specs.WayBack.{Serves, keysGiven, Smallest, layoutChecks}
 use Rattle.claims.specs.Spread.{Slip}
 use Rattle.claims.specs.Listing.{numbersIn, Listing}
 use Rattle.claims.specs.Demands.{Demand3}
 use Rattle.claims.proofs.Records.{answer-is}
-use Rattle.claims.proofs.Published.{holds, session-passes}
+use Rattle.claims.proofs.Sessions.{holds}
+use Rattle.claims.proofs.Published.{session-passes}
 use Rattle.claims.proofs.Lamps.{no-refusal}
 use Rattle.claims.proofs.Demands.{demands}
 
@@ -68,7 +76,7 @@ accepted-A = demands .sheets sheetA .accepted .0 sheetA-accepted
 accepted-B : clear (sheetChecks sheetB) ≡ true
 accepted-B = demands .sheets sheetB .accepted .0 sheetB-accepted
 
-pub not-started : startOf (set (set sheetA 33 2) 34 0) ≡ record { answer = NotStarted 9; session = zeroRecord }
+pub not-started : startOf (set (set sheetA 33 2) 34 0) ≡ record { answer = Refused 9; session = zeroRecord }
 not-started = demands .starts (set (set sheetA 33 2) 34 0) .refused 9 earlier-step-first
 
 -- ---- so demand 3 holds of every list of commands on them, and they do what the published definition does
@@ -84,6 +92,31 @@ published-A = demands .published sheetA accepted-A
 
 pub published-B : FollowsPublished sheetB
 published-B = demands .published sheetB accepted-B
+
+-- M4's firings
+abbrev firings : List (List ℕ)
+firings = fireOf 0 ∷ fireOf 1 ∷ fireOf 2 ∷ []
+
+-- an order of the lines after M4 that is not their own: step 2, which moved base 1 alone, before 0 and 1, which moved 0, 2 and 3
+
+abbrev turnedLines : List LiveLine
+turnedLines = line 2 3 (false ∷ true ∷ false ∷ false ∷ []) ∷ line 0 1 (true ∷ false ∷ true ∷ true ∷ []) ∷ line 1 2 (true ∷ false ∷ true ∷ true ∷ []) ∷ []
+
+apart-B : Independent inSet (true ∷ false ∷ true ∷ true ∷ []) (false ∷ true ∷ false ∷ false ∷ [])
+apart-B zero e = refl
+apart-B (suc zero) e = both false e refl
+apart-B (suc (suc zero)) e = refl
+apart-B (suc (suc (suc zero))) e = refl
+apart-B (suc (suc (suc (suc p)))) e = refl
+
+pub reordered-B : Reordering inSet (journalAfter sheetB firings .lines) turnedLines
+reordered-B =
+    let swaps : Swapped inSet (play netB firings (begin netB) .lines) turnedLines = chain (under (swap apart-B)) (swap apart-B) in
+    swapped-reordering inSet (subst⁻¹ (λ (n : Net). Swapped inSet (play n firings (begin n) .lines) turnedLines) sheetB-net swaps)
+    (up-distinct (journalAfter sheetB firings .lines) (played (netOf sheetB) (promised sheetB accepted-B .rule) firings .up))
+
+pub runs-turned-B : (t t′ : Tally) → ForwardRun sheetB turnedLines (journalAfter sheetB firings .marking) t′
+runs-turned-B t t′ = demand3-B firings t .reordered turnedLines reordered-B t′
 
 -- ---- what is asked of records is met: of the inner commands' by fresh ones, of those that are handed in by every record of a
 -- session
@@ -111,9 +144,6 @@ answer-B cs t c =
 
 shown : (cs : List (List ℕ)) (t : Tally) → RecordAsPublished sheetB (recordB cs t) (orderIn sheetB cs)
 shown cs t = published-B .sessions (published-B .wellFormed .1 (ap breaksNothing sheetB-net)) cs t
-
-abbrev firings : List (List ℕ)
-firings = fireOf 0 ∷ fireOf 1 ∷ fireOf 2 ∷ []
 
 pub fires-M1 : (t : Tally) → CommandFires sheetB (recordB [] t) (orderIn sheetB []) t (fireOf 0) (transition 0)
 fires-M1 t = shown [] t .firesOnly t (fireOf 0) (answer-B [] t (fireOf 0)) .3
@@ -180,6 +210,26 @@ pub way-B : (t : Tally) → Smallest sheetB (recordB firings t) t wanted (key 2 
 way-B t =
     subst (λ (y : WayBack). Smallest sheetB (recordB firings t) t wanted (keysGiven y)) (way-given t)
     (demands .ways sheetB (recordB firings t) wanted t .found (ap (λ (y : WayBack). y .answer) (way-given t)))
+
+-- base 1 wanted at place 2, where no firing took it: no set of firings does it, and the call answers 28
+
+abbrev unreachable : List ℕ
+unreachable = 255 ∷ 2 ∷ 255 ∷ 255 ∷ []
+
+way-own : {X : Type 0} (f : List Check → X) (t : Tally) → f (wayChecks (netOf sheetB) unreachable (heldIn sheetB (recordB firings t))) ≡ f (wayChecks netB unreachable (play netB firings (begin netB)))
+way-own f t = ap (λ (j : Journal). f (wayChecks (netOf sheetB) unreachable j)) (held-B t) ∙ ap (λ (n : Net). f (wayChecks n unreachable (play n firings (begin n)))) sheetB-net
+
+pub way-none : (t : Tally) → wayBackOf sheetB (recordB firings t) unreachable ≡ noWayBack 28
+way-none t =
+    let held : clear (wayBackChecks sheetB (recordB firings t) unreachable) ≡ false = clear-append (sheetChecks sheetB) _ ∙ rw (accepted-B, passes-B firings t) (way-own clear t) in
+    let number : first (wayBackChecks sheetB (recordB firings t) unreachable) ≡ 28 = first-clear (sheetChecks sheetB) _ accepted-B ∙ rw (passes-B firings t) (way-own first t) in
+    demands .ways sheetB (recordB firings t) unreachable t .away held ∙ ap noWayBack number
+
+pub none-serves-B : (t : Tally) (f : Key → Bool) → Serves sheetB (recordB firings t) t unreachable f → ⊥
+unfolding noWayBack
+none-serves-B t =
+    let fits : clear (layoutChecks sheetB (recordB firings t) unreachable) ≡ true = clear-append (sheetChecks sheetB) _ ∙ rw (accepted-B, passes-B firings t) refl in
+    demands .ways sheetB (recordB firings t) unreachable t .none fits .0 (ap (λ (y : WayBack). y .answer) (way-none t))
 
 -- ---- T-06: after M4 on sheet B the lamps of 2 and 3 are lit; that of 1 is not, since 2 was built on it
 

@@ -9,6 +9,7 @@ pub mod Replies
 pub mod Uncoupling
 pub mod Published
 pub mod Pages
+pub mod LiveList
 pub mod Blocks
 pub mod Serials
 pub mod WayBack

@@ -14,7 +14,6 @@ use Rattle.net.specs.Rules.{netRule}
 use Rattle.net.specs.Journal.{LiveLine, Journal, transition, begin, play}
 use Rattle.net.specs.Claims.{fireCommand, fireCommands}
 use Rattle.net.specs.declared.Transition.{Transition}
-use Rattle.net.proofs.Checks.{clear-append}
 use Rattle.net.proofs.Keys.{up-distinct}
 use Rattle.net.proofs.Journal.{Held}
 use Rattle.format.specs.NetOf.{netOf}
@@ -38,7 +37,9 @@ use Rattle.claims.specs.Sessions.{sessionAfter}
 use Rattle.claims.specs.Listing.{stepsIn, numbersIn, stepCommands, Listing, Listings}
 use Rattle.claims.proofs.Records.{passes-held}
 use Rattle.claims.proofs.Sessions as N
-use Rattle.claims.proofs.Published.{holds, session-passes}
+use Rattle.claims.proofs.Checks.{record-clear, record-passes}
+use Rattle.claims.proofs.Sessions.{holds}
+use Rattle.claims.proofs.Published.{session-passes}
 
 -- ---- the steps of a listing
 
@@ -66,14 +67,6 @@ module _ (s : List ℕ) where
   unfolding listingFor
   by-clear r a e = ap (λ (x : Bool). pick x (listingOf (listing (heldIn s r .lines))) (noListing (first (recordChecks s r [])))) e
 
-  clear-is : (r : Record) → clear (recordChecks s r []) ≡ (clear (sheetChecks s) && (not (not (soundFor s r)) && true))
-  clear-is r = clear-append (sheetChecks s) (check 10 (not (soundFor s r)) ∷ [])
-
-  two : (a b : Bool) → (a && (not (not b) && true)) ≡ true → (a ≡ true) × (b ≡ true)
-  two true true e = (refl, refl)
-  two true false e = both false e refl
-  two false b e = both false e refl
-
   module _ (r : Record) (h : clear (recordChecks s r []) ≡ true) where
     abbrev j : Journal
     j = heldIn s r
@@ -82,7 +75,7 @@ module _ (s : List ℕ) where
     ls = j .lines
 
     passed : (clear (sheetChecks s) ≡ true) × (soundFor s r ≡ true)
-    passed = two (clear (sheetChecks s)) (soundFor s r) (sym (clear-is r) ∙ h)
+    passed = record-passes s r h
 
     rule : netRule (netOf s) ≡ true
     rule = promised s (passed .0) .rule
@@ -103,7 +96,7 @@ module _ (s : List ℕ) where
     again t =
         let cs : List (List ℕ) = fireCommands (ordered (length ls) ls) in
         let z : Record = sessionAfter s cs t .session in
-        let c : clear (recordChecks s z []) ≡ true = clear-is z ∙ rw (passed .0, session-passes s (passed .0) rule cs t) refl in
+        let c : clear (recordChecks s z []) ≡ true = record-clear s z ∙ rw (passed .0, session-passes s (passed .0) rule cs t) refl in
         ap (λ (x : List (List ℕ)). listingFor s (sessionAfter s x t .session)) commands-are ∙ by-clear z true c
         ∙ ap (λ (i : Journal). listingOf (listing (i .lines))) (holds s (passed .0) rule cs t) ∙ ap listingOf (relisted-journal (netOf s) rule j held) ∙ sym is
 

@@ -1,7 +1,7 @@
 -- The pages of every list of firing records; the premise is met by the live firings of document 01's case M4 on sheet B.
 -- Assumes nothing.
-use mathlib.Core.Path.{_≡_, refl}
-use mathlib.Core.Bool.{Bool, true, _&&_}
+use mathlib.Core.Path.{_≡_, refl, sym, _∙_, ap}
+use mathlib.Core.Bool.{Bool, true, false, not, _&&_}
 use mathlib.Core.List.{List, [], _∷_, map}
 use Prim.Native.Nat.{ℕ, _≤_}
 use native.Mathlib.Omega.{arith}
@@ -15,7 +15,7 @@ use Rattle.words.proofs.Bits.{set-size}
 use Rattle.words.specs.Sets.{setOf, sizeOf}
 use Rattle.firings.specs.declared.Firing.{Firing}
 use Rattle.page_lines.specs.Claims.{holdable}
-use Rattle.page_lines.proofs.Claims.{page-fits, pages-hold, printed-whole}
+use Rattle.page_lines.proofs.Claims.{page-fits, pages-hold, printed-whole, away}
 use Rattle.page_lines.specs.Page.{row}
 use Rattle.page.specs.Rows.{rowOf}
 use Rattle.net.specs.Journal.{key}
@@ -41,7 +41,7 @@ rows-hold (f ∷ fs) h =
     and-i (holdable (rowOf f)) (all holdable (map rowOf fs)) (row-holds f (and-l (inBytes f) (all inBytes fs) h)) (rows-hold fs (and-r (inBytes f) (all inBytes fs) h))
 
 pub pages : (fs : List Firing) → Pages fs
-pages fs = record { fits = λ h k. page-fits (map rowOf fs) k (rows-hold fs h); whole = λ h k b. printed-whole (map rowOf fs) k b (rows-hold fs h); holds = pages-hold (map rowOf fs) }
+pages fs = record { fits = λ h k. page-fits (map rowOf fs) k (rows-hold fs h); whole = λ h k b. printed-whole (map rowOf fs) k b (rows-hold fs h); away = away (map rowOf fs); holds = pages-hold (map rowOf fs) }
 
 -- steps 0, 1 and 2 of sheet B, with what they moved: 0, 2, 3; the same; 1
 abbrev afterM4 : List Firing

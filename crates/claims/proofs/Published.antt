@@ -40,6 +40,7 @@ use Rattle.claims.specs.Sessions.{sessionAfter}
 use Rattle.claims.specs.States.{marksIn, historyIn, orderIn}
 use Rattle.claims.specs.Published.{givenIn, firedAs, answeredAndZero, CommandFires, CommandTakesBack, RecordAsPublished, RecordKeysAsPublished, FollowsPublished, Demand2Published}
 use Rattle.claims.proofs.Records.{journal-passes, passes-held}
+use Rattle.claims.proofs.Sessions.{holds}
 use Rattle.claims.proofs.Replies.{isFired, not-one, key-two, key-three, FiredNow, UndoneNow, fires-if, fired-only, undoes-if, undone-only, undone-kinds}
 use Rattle.claims.proofs.Uncoupling.{record-uncouples}
 
@@ -158,16 +159,13 @@ module _ (s : List ℕ) (accepted : clear (sheetChecks s) ≡ true) (ok : netRul
 -- ---- sessions, and sound records
 
 module _ (s : List ℕ) (accepted : clear (sheetChecks s) ≡ true) (ok : netRule (netOf s) ≡ true) where
-  -- a session's record holds the journal, and passes the test
-  pub holds : (cs : List (List ℕ)) (t : Tally) → heldIn s (sessionAfter s cs t .session) ≡ play (netOf s) cs (begin (netOf s))
-  holds cs t = ap (heldIn s) (follows-fresh s accepted cs t .session) ∙ held-back s accepted (play (netOf s) cs (begin (netOf s))) (played (netOf s) ok cs)
-
+  -- a session's record passes the test
   pub session-passes : (cs : List (List ℕ)) (t : Tally) → soundFor s (sessionAfter s cs t .session) ≡ true
   session-passes cs t = ap (soundFor s) (follows-fresh s accepted cs t .session) ∙ journal-passes s accepted ok (play (netOf s) cs (begin (netOf s))) (played (netOf s) ok cs)
 
   -- ≺ after the commands is that of the record
   order-held : (cs : List (List ℕ)) (t : Tally) → Agrees (netOf s) (heldIn s (sessionAfter s cs t .session)) (orderIn s cs)
-  order-held cs t = subst⁻¹ (λ (x : Journal). Agrees (netOf s) x (orderIn s cs)) (holds cs t) (order-is (netOf s) ok cs)
+  order-held cs t = subst⁻¹ (λ (x : Journal). Agrees (netOf s) x (orderIn s cs)) (holds s accepted ok cs t) (order-is (netOf s) ok cs)
 
   fresh-holds : heldIn s (freshOf s) ≡ begin (netOf s)
   unfolding freshOf
@@ -190,7 +188,7 @@ module _ (s : List ℕ) (accepted : clear (sheetChecks s) ≡ true) (ok : netRul
         uncouplesSound = λ r h. record-uncouples s accepted ok r h (orderOfLines (netOf s) (heldIn s r .lines)) (lines-order (netOf s) ok (heldIn s r) (passes-held s accepted ok r h));
         keys = λ cs t. keys-held s accepted ok (sessionAfter s cs t .session) (session-passes cs t);
         soundKeys = λ r h. keys-held s accepted ok r h;
-        given = λ cs t. subst⁻¹ (λ (x : Journal). Max (answeredAndZero (sessionAfter s cs t .answers)) (lastGiven x .0)) (holds cs t)
+        given = λ cs t. subst⁻¹ (λ (x : Journal). Max (answeredAndZero (sessionAfter s cs t .answers)) (lastGiven x .0)) (holds s accepted ok cs t)
             (subst⁻¹ (λ (rs : List Answered). Max (answeredAndZero rs) (lastGiven (play (netOf s) cs (begin (netOf s))) .0)) (follows-fresh s accepted cs t .answers)
             (highest-answered (answers (netOf s) cs (begin (netOf s))) (lastGiven (play (netOf s) cs (begin (netOf s))) .0) (N .given cs)));
       }

@@ -24,7 +24,7 @@ use Rattle.runs.proofs.Turns.{play-append}
 use Rattle.session.specs.Runs.{Answered, answered}
 use Rattle.session.proofs.Steps.{follows-fresh}
 use Rattle.claims.specs.Serials.{serialsFired, tookBack, Serials}
-use Rattle.claims.proofs.Published.{holds}
+use Rattle.claims.proofs.Sessions.{holds}
 
 -- ---- answers of the session and of the journal
 

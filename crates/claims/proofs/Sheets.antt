@@ -3,21 +3,20 @@
 use mathlib.Core.Path.{_≡_, refl, sym, _∙_, ap, subst}
 use mathlib.Core.Bool.{Bool, true, false, _&&_}
 use mathlib.Core.List.{List}
-use Prim.Native.Nat.{ℕ, zero, suc, _+_}
+use Prim.Native.Nat.{ℕ, zero, suc, _+_, _≤_}
 use lib.Dec.{ltb, leb}
 use borrow.Author.Tests.{eqb-true, ltb-true, leb-true}
 use Rattle.causal.proofs.Tests.{test, both}
 use Rattle.net.specs.Tests.{pick, all}
-use Rattle.net.specs.Checks.{Check, clear, first}
+use Rattle.net.specs.Checks.{Check, clear, first, verdictNumber}
 use Rattle.net.proofs.Tests.{and-l, and-r}
 use Rattle.format.specs.Parts.{transitionsOf}
-use Rattle.sheet.specs.Checks.{checksFrom, sheetChecks, checked, sheetNumber}
-use Rattle.sheet.specs.declared.SheetAnswer.{SheetAnswer}
-use Rattle.sheet.specs.declared.SheetAnswer.the-variants.{Accepted, Refused}
+use Rattle.sheet.specs.Checks.{checksFrom, sheetChecks, checked}
+use Rattle.net.specs.declared.Verdict.{Verdict}
+use Rattle.net.specs.declared.Verdict.the-variants.{Accepted, Refused}
 use Rattle.sheet.proofs.Order.{clear-first}
-use Rattle.session.specs.Commands.{freshOf, zeroRecord, startOf, startNumber}
+use Rattle.session.specs.Commands.{freshOf, zeroRecord, startOf}
 use Rattle.session.specs.declared.Start.{Start}
-use Rattle.session.specs.declared.StartAnswer.the-variants.{Started, NotStarted}
 use Rattle.sound.proofs.Refusing.{sheet-positive}
 use Rattle.claims.specs.Demands.{FirstHolds, SheetAnswered, SheetStarts}
 use Rattle.net.proofs.Checks.{first-has}
@@ -25,20 +24,23 @@ use Rattle.claims.proofs.Checks.{first-found, found-first}
 
 -- ---- the numbers are 1 to 9
 
-abbrev oneToNine : ℕ → Bool
-oneToNine n = ltb 0 n && leb n 9
+abbrev pub oneTo : ℕ → ℕ → Bool
+oneTo m n = ltb 0 n && leb n m
 
-from-within : (s : List ℕ) (k n : ℕ) → all (λ (c : Check). oneToNine (c .number)) (checksFrom s k n) ≡ true
+pub one-to : (m n : ℕ) → oneTo m n ≡ true → (1 ≤ n) × (n ≤ m)
+one-to m n h = (ltb-true 0 n (and-l (ltb 0 n) (leb n m) h), leb-true n m (and-r (ltb 0 n) (leb n m) h))
+
+from-within : (s : List ℕ) (k n : ℕ) → all (λ (c : Check). oneTo 9 (c .number)) (checksFrom s k n) ≡ true
 from-within s k zero = refl
 from-within s k (suc n) = from-within s (k + 1) n
 
-sheet-within : (s : List ℕ) → all (λ (c : Check). oneToNine (c .number)) (sheetChecks s) ≡ true
+pub sheet-within : (s : List ℕ) → all (λ (c : Check). oneTo 9 (c .number)) (sheetChecks s) ≡ true
 unfolding sheetChecks
 sheet-within s = from-within s 0 (transitionsOf s)
 
 -- ---- the answer
 
-abbrev isAccepted : SheetAnswer → Bool
+abbrev isAccepted : Verdict → Bool
 isAccepted Accepted = true
 isAccepted (Refused n) = false
 
@@ -58,7 +60,7 @@ module _ (s : List ℕ) where
       apart q = both false (ap isAccepted q) refl
 
   refused-held : (n : ℕ) → checked s ≡ Refused n → (clear (sheetChecks s) ≡ false) × (first (sheetChecks s) ≡ n)
-  refused-held n e = test (clear (sheetChecks s)) (λ h. absurd (apart (sym (when-clear h) ∙ e))) (λ h. (h, ap sheetNumber (sym (when-held h) ∙ e)))
+  refused-held n e = test (clear (sheetChecks s)) (λ h. absurd (apart (sym (when-clear h) ∙ e))) (λ h. (h, ap verdictNumber (sym (when-held h) ∙ e)))
     where
       apart : Accepted ≡ Refused n → ⊥
       apart q = both true refl (ap isAccepted q)
@@ -72,28 +74,27 @@ module _ (s : List ℕ) where
     );
     numbers = λ n e.
         let (h, q) = refused-held n e in
-        let w : oneToNine n ≡ true = subst (λ (k : ℕ). oneToNine k ≡ true) q (first-has oneToNine (sheetChecks s) (sheet-within s) h) in
-        (ltb-true 0 n (and-l (ltb 0 n) (leb n 9) w), leb-true n 9 (and-r (ltb 0 n) (leb n 9) w));
+        one-to 9 n (subst (λ (k : ℕ). oneTo 9 k ≡ true) q (first-has (oneTo 9) (sheetChecks s) (sheet-within s) h));
     number = test (clear (sheetChecks s))
-        (λ h. ap sheetNumber (when-clear h) ∙ sym (eqb-true (first (sheetChecks s)) 0 (sym (clear-first (sheetChecks s) (sheet-positive s)) ∙ h)))
-        (λ h. ap sheetNumber (when-held h));
+        (λ h. ap verdictNumber (when-clear h) ∙ sym (eqb-true (first (sheetChecks s)) 0 (sym (clear-first (sheetChecks s) (sheet-positive s)) ∙ h)))
+        (λ h. ap verdictNumber (when-held h));
   }
 
   -- ---- starting
 
-  starts-fresh : clear (sheetChecks s) ≡ true → startOf s ≡ record { answer = Started; session = freshOf s }
+  starts-fresh : clear (sheetChecks s) ≡ true → startOf s ≡ record { answer = Accepted; session = freshOf s }
   unfolding startOf
-  starts-fresh h = ap (λ (b : Bool). pick b (record { answer = Started; session = freshOf s }) (record { answer = NotStarted (first (sheetChecks s)); session = zeroRecord })) h
+  starts-fresh h = ap (λ (b : Bool). pick b (record { answer = Accepted; session = freshOf s }) (record { answer = Refused (first (sheetChecks s)); session = zeroRecord })) h
 
-  starts-not : clear (sheetChecks s) ≡ false → startOf s ≡ record { answer = NotStarted (first (sheetChecks s)); session = zeroRecord }
+  starts-not : clear (sheetChecks s) ≡ false → startOf s ≡ record { answer = Refused (first (sheetChecks s)); session = zeroRecord }
   unfolding startOf
-  starts-not h = ap (λ (b : Bool). pick b (record { answer = Started; session = freshOf s }) (record { answer = NotStarted (first (sheetChecks s)); session = zeroRecord })) h
+  starts-not h = ap (λ (b : Bool). pick b (record { answer = Accepted; session = freshOf s }) (record { answer = Refused (first (sheetChecks s)); session = zeroRecord })) h
 
   pub sheet-starts : SheetStarts s
   sheet-starts = record {
     accepted = λ e. starts-fresh (accepted-clear e);
-    refused = λ n e. let (h, q) = refused-held n e in starts-not h ∙ ap (λ (k : ℕ). record { answer = NotStarted k; session = zeroRecord }) q;
+    refused = λ n e. let (h, q) = refused-held n e in starts-not h ∙ ap (λ (k : ℕ). record { answer = Refused k; session = zeroRecord }) q;
     number = test (clear (sheetChecks s))
-        (λ h. ap (λ (y : Start). startNumber (y .answer)) (starts-fresh h) ∙ sym (ap sheetNumber (when-clear h)))
-        (λ h. ap (λ (y : Start). startNumber (y .answer)) (starts-not h) ∙ sym (ap sheetNumber (when-held h)));
+        (λ h. ap (λ (y : Start). verdictNumber (y .answer)) (starts-fresh h) ∙ sym (ap verdictNumber (when-clear h)))
+        (λ h. ap (λ (y : Start). verdictNumber (y .answer)) (starts-not h) ∙ sym (ap verdictNumber (when-held h)));
   }

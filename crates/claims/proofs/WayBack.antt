@@ -32,8 +32,8 @@ use Rattle.tally.specs.declared.Tally.{Tally}
 use Rattle.way_back.specs.Ways.{AtPlaces, TakenBack, HasEffect, noWay, gone, wayBack}
 use Rattle.way_back.specs.Claims.{LeastWay}
 use Rattle.way_back.specs.Answer.{wayOf, noWayBack, wayChecks}
-use Rattle.way_back.specs.declared.WayAnswer.{WayAnswer}
-use Rattle.way_back.specs.declared.WayAnswer.the-variants.{Found, Refused}
+use Rattle.net.specs.declared.Verdict.{Verdict}
+use Rattle.net.specs.declared.Verdict.the-variants.{Accepted, Refused}
 use Rattle.way_back.specs.declared.WayBack.{WayBack}
 use Rattle.way_back.proofs.Least.{least-way}
 use Rattle.session.specs.Records.{heldIn, soundFor}
@@ -176,8 +176,8 @@ module _ (s : List ℕ) (accepted : clear (sheetChecks s) ≡ true) (ok : netRul
 
 -- ---- what the call answers
 
-is-found : WayAnswer → Bool
-is-found Found = true
+is-found : Verdict → Bool
+is-found Accepted = true
 is-found (Refused n) = false
 
 module _ (s : List ℕ) (r : Record) (w : List ℕ) (t : Tally) where
@@ -194,7 +194,7 @@ module _ (s : List ℕ) (r : Record) (w : List ℕ) (t : Tally) where
   clear-is : clear (wayBackChecks s r w) ≡ (clear (sheetChecks s) && (not (not (soundFor s r)) && (not unfit && (not (noWay (netOf s) w (heldIn s r)) && true))))
   clear-is = clear-append (sheetChecks s) (check 10 (not (soundFor s r)) ∷ own)
 
-  found-clear : wayBackOf s r w .answer ≡ Found → clear (wayBackChecks s r w) ≡ true
+  found-clear : wayBackOf s r w .answer ≡ Accepted → clear (wayBackChecks s r w) ≡ true
   unfolding noWayBack is-found
   found-clear e = test (clear (wayBackChecks s r w)) (λ h. h) (λ h. both true refl (sym (ap is-found e) ∙ ap (λ (y : WayBack). is-found (y .answer)) (by-clear false h)))
 
@@ -228,14 +228,14 @@ module _ (s : List ℕ) (r : Record) (w : List ℕ) (t : Tally) where
       let ks = wayBack (netOf s) w (heldIn s r) in
       ap keysGiven (by-clear true h) ∙ take-at ks (replicate (maxLive - length ks) (key 0)) (length ks) refl
 
-  found : wayBackOf s r w .answer ≡ Found → Smallest s r t w (keysGiven (wayBackOf s r w))
+  found : wayBackOf s r w .answer ≡ Accepted → Smallest s r t w (keysGiven (wayBackOf s r w))
   found e =
       let h = found-clear e in
       let (a, b, c, d) = whole (clear (sheetChecks s)) (soundFor s r) unfit (noWay (netOf s) w (heldIn s r)) (sym clear-is ∙ h) in
       subst (Smallest s r t w) (sym (given h)) (smallest s a (promised s a .rule) r b w t d)
 
   -- 28, by the search
-  answered-by : Passes → (d : Bool) → noWay (netOf s) w (heldIn s r) ≡ d → wayBackOf s r w .answer ≡ pick d (Refused 28) Found
+  answered-by : Passes → (d : Bool) → noWay (netOf s) w (heldIn s r) ≡ d → wayBackOf s r w .answer ≡ pick d (Refused 28) Accepted
   unfolding noWayBack
   answered-by p false e = ap (λ (y : WayBack). y .answer) (by-clear true (clear-is ∙ rw (p .sheet, p .record-passes, p .fit, e)))
   answered-by p true e =

@@ -14,12 +14,12 @@ use Rattle.session.specs.Runs.{Session, runOf}
 use Rattle.session.specs.Lists.{wordsOf, valuesOf}
 use Rattle.session.specs.Block.{blockChecks, Handed, turnedAway, notRun, blockOf}
 use Rattle.session.specs.declared.Record.{Record}
-use Rattle.session.specs.declared.block.BlockAnswer.the-variants.{Ran}
+use Rattle.net.specs.declared.Verdict.the-variants.{Accepted}
 
 -- The block's commands given singly, each by `commandOf` on the record and with the tally that the one before handed back, came
 -- to the session y: so does the block y′, and its lists have one answer for each command and then what they had.
 pub record AsSingly (y : Session) (n : ℕ) (words values : List ℕ) (y′ : Handed) : Type 0 where
-  pub answer : y′ .outcome .answer ≡ Ran
+  pub answer : y′ .outcome .answer ≡ Accepted
   pub count : y′ .outcome .count ≡ n
   pub one-each : length (y .answers) ≡ n
   pub session : y′ .outcome .session ≡ y .session

@@ -13,7 +13,7 @@ use lib.ListN.{length, getD}
 use Rattle.causal.specs.Lists.{Mem}
 use Rattle.causal.specs.Reorderings.{Reordering}
 use Rattle.net.specs.Limits.{maxBases}
-use Rattle.net.specs.Checks.{Check, check, clear, first}
+use Rattle.net.specs.Checks.{Check, check, clear, first, verdictNumber}
 use Rattle.net.specs.Firing.{inSet}
 use Rattle.net.specs.Connection.{Leads, connected}
 use Rattle.net.specs.Journal.{LiveLine, key, kindOf, transitionNamed, keyNamed, fireReply, undoReply, begin, answers}
@@ -23,21 +23,20 @@ use Rattle.net.specs.declared.Bond.{Bond}
 use Rattle.net.specs.declared.Key.{Key}
 use Rattle.published.specs.Sets.{Iff}
 use Rattle.format.specs.NetOf.{netOf}
-use Rattle.sheet.specs.Checks.{sheetChecks, checked, sheetNumber}
-use Rattle.sheet.specs.declared.SheetAnswer.the-variants as S
+use Rattle.sheet.specs.Checks.{sheetChecks, checked}
 use Rattle.tally.specs.Counts.{maxCount, oneMore, zeroTally}
 use Rattle.tally.specs.declared.Tally.{Tally}
 use Rattle.session.specs.declared.Record.{Record}
 use Rattle.session.specs.Records.{heldIn, recordOf, soundFor}
-use Rattle.session.specs.Commands.{freshOf, zeroRecord, startOf, startNumber, refusal, outcomeOf, commandChecks, commandOf}
+use Rattle.session.specs.Commands.{freshOf, zeroRecord, startOf, refusal, outcomeOf, commandChecks, commandOf}
 use Rattle.commands.specs.Answers.{answerNumber}
 use Rattle.session.specs.Runs.{answered}
-use Rattle.session.specs.declared.StartAnswer.the-variants.{Started, NotStarted}
+use Rattle.net.specs.declared.Verdict.the-variants as Verdict
 use Rattle.commands.specs.declared.Answer.the-variants.{Refused}
 use Rattle.claims.specs.Sessions.{journalAfter, sessionAfter, ForwardRun}
 use Rattle.firings.specs.declared.Firing.{Firing}
 use Rattle.claims.specs.Published.{Demand2Published}
-use Rattle.claims.specs.Pages.{Pages}
+use Rattle.claims.specs.Pages.{Pages, listedLines, LiveListed}
 use Rattle.claims.specs.Blocks.{Blocks}
 use Rattle.claims.specs.Serials.{Serials}
 use Rattle.claims.specs.WayBack.{Ways}
@@ -60,21 +59,27 @@ FirstHolds n cs = (before : List Check) × (after : List Check) × (cs ≡ befor
 -- A sheet alone.
 pub record SheetAnswered (s : List ℕ) : Type 0 where
   -- it is accepted exactly where none of its checks holds, and refused by n exactly where n is the first that does
-  pub accepted : Iff (checked s ≡ S.Accepted) (clear (sheetChecks s) ≡ true)
-  pub refused : (n : ℕ) → Iff (checked s ≡ S.Refused n) (FirstHolds n (sheetChecks s))
+  pub accepted : Iff (checked s ≡ Verdict.Accepted) (clear (sheetChecks s) ≡ true)
+  pub refused : (n : ℕ) → Iff (checked s ≡ Verdict.Refused n) (FirstHolds n (sheetChecks s))
   -- which is one of 1 to 9
-  pub numbers : (n : ℕ) → checked s ≡ S.Refused n → (1 ≤ n) × (n ≤ 9)
-  pub number : sheetNumber (checked s) ≡ first (sheetChecks s)
+  pub numbers : (n : ℕ) → checked s ≡ Verdict.Refused n → (1 ≤ n) × (n ≤ 9)
+  pub number : verdictNumber (checked s) ≡ first (sheetChecks s)
 
 -- Starting a session on a sheet: the fresh record, or a record of zeros with the sheet's refusal.
 pub record SheetStarts (s : List ℕ) : Type 0 where
-  pub accepted : checked s ≡ S.Accepted → startOf s ≡ record { answer = Started; session = freshOf s }
-  pub refused : (n : ℕ) → checked s ≡ S.Refused n → startOf s ≡ record { answer = NotStarted n; session = zeroRecord }
-  pub number : startNumber (startOf s .answer) ≡ sheetNumber (checked s)
+  pub accepted : checked s ≡ Verdict.Accepted → startOf s ≡ record { answer = Verdict.Accepted; session = freshOf s }
+  pub refused : (n : ℕ) → checked s ≡ Verdict.Refused n → startOf s ≡ record { answer = Verdict.Refused n; session = zeroRecord }
+  pub number : verdictNumber (startOf s .answer) ≡ verdictNumber (checked s)
 
 -- A command.
 
--- the tally with one more refused; a count at 65,535 stays there
+-- the tally with one more fired, undone or refused; a count at 65,535 stays there
+abbrev pub oneMoreFired : Tally → Tally
+oneMoreFired t = record { fired = oneMore (t .fired); undone = t .undone; refused = t .refused }
+
+abbrev pub oneMoreUndone : Tally → Tally
+oneMoreUndone t = record { fired = t .fired; undone = oneMore (t .undone); refused = t .refused }
+
 abbrev pub oneMoreRefused : Tally → Tally
 oneMoreRefused t = record { fired = t .fired; undone = t .undone; refused = oneMore (t .refused) }
 
@@ -86,6 +91,8 @@ pub record Demand1 (s : List ℕ) (r : Record) (t : Tally) (c : List ℕ) : Type
   -- a refused command leaves the record as it was, gives key 0 and adds one to refused
   pub refused : (n : ℕ) → commandOf s r t c .outcome .answer ≡ Refused n
       → commandOf s r t c ≡ record { outcome = refusal r n; tally = oneMoreRefused t }
+  -- and is refused by one of 1 to 21
+  pub numbers : (n : ℕ) → commandOf s r t c .outcome .answer ≡ Refused n → (1 ≤ n) × (n ≤ 21)
 
 -- ---- Demand 2: firing and taking back give exactly what document 01's definitions give. (That these are the published ones
 -- is `Demand2Published`.)
@@ -97,6 +104,9 @@ pub record Demand2 (s : List ℕ) (r : Record) (t : Tally) (c : List ℕ) : Type
   -- and so with a taking back
   pub undoes : clear (commandChecks s r c) ≡ true → eqb (kindOf c) 1 ≡ false
       → commandOf s r t c .outcome ≡ outcomeOf (undoReply (netOf s) (heldIn s r) (keyNamed (heldIn s r) c))
+  -- the one counts as fired, the other as undone
+  pub countsFired : clear (commandChecks s r c) ≡ true → eqb (kindOf c) 1 ≡ true → commandOf s r t c .tally ≡ oneMoreFired t
+  pub countsUndone : clear (commandChecks s r c) ≡ true → eqb (kindOf c) 1 ≡ false → commandOf s r t c .tally ≡ oneMoreUndone t
   -- a refusal is given where its condition is the first that holds
   pub refuses : (n : ℕ) → FirstHolds n (commandChecks s r c) → commandOf s r t c .outcome .answer ≡ Refused n
   -- and never otherwise
@@ -107,6 +117,8 @@ pub record Demand2 (s : List ℕ) (r : Record) (t : Tally) (c : List ℕ) : Type
 pub record Demand3 (s : List ℕ) (cs : List (List ℕ)) (t : Tally) : Type 0 where
   -- the record is the journal in the record's form, and each answer was the journal's
   pub session : sessionAfter s cs t .session ≡ recordOf (journalAfter s cs)
+  -- a form that loses nothing: what the record holds is the journal
+  pub held : heldIn s (sessionAfter s cs t .session) ≡ journalAfter s cs
   pub answers : sessionAfter s cs t .answers ≡ map answered (answers (netOf s) cs (begin (netOf s)))
   -- the lines left stand in the order of their keys, which strictly ascend from 1 to 65,535; they are at most 256
   pub serials : linesInForm (journalAfter s cs .lines) ≡ true
@@ -156,6 +168,9 @@ pub record Demands : Type 0 where
   pub totals : (s : List ℕ) → clear (sheetChecks s) ≡ true → (cs : List (List ℕ)) → SessionTotals s cs
   -- document 02's requests, each by its file
   pub pages : (fs : List Firing) → Pages fs
+  pub lists : (s : List ℕ) (r : Record) → LiveListed s r
+  -- a session's list is the lines of the session book
+  pub booked : (s : List ℕ) → clear (sheetChecks s) ≡ true → (cs : List (List ℕ)) (t : Tally) → listedLines s (sessionAfter s cs t .session) ≡ journalAfter s cs .lines
   pub serials : (s : List ℕ) → clear (sheetChecks s) ≡ true → (cs : List (List ℕ)) (t : Tally) → Serials s cs t
   pub blocks : (s : List ℕ) (r : Record) (t : Tally) (b words values : List ℕ) → Blocks s r t b words values
   pub ways : (s : List ℕ) (r : Record) (w : List ℕ) (t : Tally) → Ways s r w t

@@ -16,7 +16,7 @@ use Rattle.tally.specs.declared.Tally.{Tally}
 use Rattle.listing.specs.First.{FirstOf, TurnsInto}
 use Rattle.listing.specs.Listing.{noListing}
 use Rattle.listing.specs.declared.Listing as L
-use Rattle.listing.specs.declared.ListingAnswer.the-variants.{Given}
+use Rattle.net.specs.declared.Verdict.the-variants.{Accepted}
 use Rattle.session.specs.Records.{heldIn}
 use Rattle.session.specs.Commands.{recordChecks}
 use Rattle.session.specs.Listing.{listingFor}
@@ -56,7 +56,7 @@ pub record Listing (s : List ℕ) (r : Record) : Type 0 where
 
 pub record Listings (s : List ℕ) (r : Record) : Type 0 where
   -- given where none of 1 to 10 holds
-  pub answer : clear (recordChecks s r []) ≡ true → listingFor s r .answer ≡ Given
+  pub answer : clear (recordChecks s r []) ≡ true → listingFor s r .answer ≡ Accepted
   pub given : clear (recordChecks s r []) ≡ true → Listing s r
   -- what is refused is refused by the first of 1 to 10 that holds, and gives the empty list
   pub away : clear (recordChecks s r []) ≡ false → listingFor s r ≡ noListing (first (recordChecks s r []))

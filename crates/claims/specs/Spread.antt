@@ -18,7 +18,7 @@ use Rattle.format.specs.Parts.{basesOf}
 use Rattle.tally.specs.declared.Tally.{Tally}
 use Rattle.spread.specs.Depends.{Depends, remaining}
 use Rattle.spread.specs.Spread.{notTold}
-use Rattle.spread.specs.declared.SpreadAnswer.the-variants.{Told}
+use Rattle.net.specs.declared.Verdict.the-variants.{Accepted}
 use Rattle.session.specs.Records.{heldIn}
 use Rattle.session.specs.Lamps.{canUndo}
 use Rattle.session.specs.Spread.{spreadChecks, spreadFor}
@@ -72,7 +72,7 @@ pub record Slip (s : List ℕ) (r : Record) (k : Key) (t : Tally) : Type 0 where
 -- A key asked of the record r on the sheet s.
 pub record Spreads (s : List ℕ) (r : Record) (k : Key) (t : Tally) : Type 0 where
   -- told where none of 1 to 10 and 19 holds
-  pub answer : clear (spreadChecks s r k) ≡ true → spreadFor s r k .answer ≡ Told
+  pub answer : clear (spreadChecks s r k) ≡ true → spreadFor s r k .answer ≡ Accepted
   pub told : clear (spreadChecks s r k) ≡ true → Slip s r k t
   -- what is refused is refused by the first of 1 to 10 and 19 that holds, and gives the empty set
   pub away : clear (spreadChecks s r k) ≡ false → spreadFor s r k ≡ notTold (first (spreadChecks s r k))

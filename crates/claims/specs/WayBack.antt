@@ -19,7 +19,7 @@ use Rattle.marking.specs.Form.{padWith}
 use Rattle.tally.specs.declared.Tally.{Tally}
 use Rattle.way_back.specs.Ways.{higher}
 use Rattle.way_back.specs.Answer.{noWayBack}
-use Rattle.way_back.specs.declared.WayAnswer.the-variants.{Found, Refused}
+use Rattle.net.specs.declared.Verdict.the-variants.{Accepted, Refused}
 use Rattle.way_back.specs.declared.WayBack.{WayBack}
 use Rattle.session.specs.Records.{heldIn}
 use Rattle.session.specs.Commands.{recordChecks}
@@ -64,10 +64,10 @@ layoutChecks s r w = recordChecks s r (check 27 (unfitLayout (basesOf s) (places
 -- A layout w asked of the record r on the sheet s; t is the tally of the commands that are spoken of.
 pub record Ways (s : List ℕ) (r : Record) (w : List ℕ) (t : Tally) : Type 0 where
   -- what is given where a way is found is the smallest set that serves; every entry after it holds 0
-  pub found : wayBackOf s r w .answer ≡ Found → Smallest s r t w (keysGiven (wayBackOf s r w))
-  pub unused : wayBackOf s r w .answer ≡ Found → wayBackOf s r w .keys ≡ padWith (key 0) maxLive (keysGiven (wayBackOf s r w))
+  pub found : wayBackOf s r w .answer ≡ Accepted → Smallest s r t w (keysGiven (wayBackOf s r w))
+  pub unused : wayBackOf s r w .answer ≡ Accepted → wayBackOf s r w .keys ≡ padWith (key 0) maxLive (keysGiven (wayBackOf s r w))
   -- where none of 1 to 10 and 27 holds, 28 is answered exactly if no set serves, and else a way is found
   pub none : clear (layoutChecks s r w) ≡ true → Iff (wayBackOf s r w .answer ≡ Refused 28) ((f : Key → Bool) → Serves s r t w f → ⊥)
-  pub some : clear (layoutChecks s r w) ≡ true → (f : Key → Bool) → Serves s r t w f → wayBackOf s r w .answer ≡ Found
+  pub some : clear (layoutChecks s r w) ≡ true → (f : Key → Bool) → Serves s r t w f → wayBackOf s r w .answer ≡ Accepted
   -- what is refused is refused by the first of 1 to 10, 27 and 28 that holds, and gives the empty set
   pub away : clear (wayBackChecks s r w) ≡ false → wayBackOf s r w ≡ noWayBack (first (wayBackChecks s r w))

@@ -3,7 +3,6 @@
 //   0 to 9  fires the step     a to i  takes back 1 to 9     u  takes back the last
 // In the table a digit is a serial, l is 255, and m is 256.
 use crate::judge::HAND;
-use crate::judge::lamps_number;
 use crate::judge::unless;
 use case_tools::bytes::byte;
 use generated::commands::made;
@@ -51,7 +50,7 @@ fn letters_hold(r: Record, sheet: &[u8], flags: &[u8], table: &[u8]) -> bool {
     let a = l.answer;
     let lit = l.lit;
     let movers = r.movers;
-    let answer = (lamps_number(a) == 0) & (l.count == flags.len());
+    let answer = (a.number() == 0) & (l.count == flags.len());
     answer & all_hold(lit, movers, flags, table)
 }
 

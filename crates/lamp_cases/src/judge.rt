@@ -3,7 +3,6 @@
 use crate::counts::count_lamp;
 use case_records::heard::answer_to;
 use generated::commands::undo_bytes;
-use lamps::LampsAnswer;
 use net::Key;
 use net::MAX_BASES;
 use net::MAX_LIVE;
@@ -92,14 +91,6 @@ fn serials_differ(c: &mut [u64], r: Record, sheet: &[u8], s: [u64; STATE], numbe
     0
 }
 
-// The number of an answer; 0 where the lamps are shown.
-pub fn lamps_number(a: LampsAnswer) -> u64 {
-    match a {
-        LampsAnswer::Shown => 0,
-        LampsAnswer::Refused(n) => n as u64,
-    }
-}
-
 // The flag that is expected for a serial: its lamp. After the last live firing there is none.
 fn flag_of(r: Record, sheet: &[u8], key: u64) -> bool {
     if 65536 <= key {
@@ -127,7 +118,7 @@ fn lamps_differ(r: Record, sheet: &[u8], s: &[u64], number: u64) -> u64 {
     let a = l.answer;
     let lit = l.lit;
     let live = if number == 0 { oracle::live(s) } else { 0 };
-    let answer = unless(lamps_number(a) == number, NUMBER) | unless(l.count == live, COUNT);
+    let answer = unless(a.number() as u64 == number, NUMBER) | unless(l.count == live, COUNT);
     answer | unless(flags_hold(r, sheet, lit, s), FLAG)
 }
 

@@ -13,8 +13,7 @@ use Rattle.words.specs.Sets.{setOf}
 use Rattle.firings.specs.Search.{keysIn, indexOf}
 use Rattle.movers.specs.Lamp.{onTop}
 use Rattle.movers.specs.Tables.{onTopIn}
-use Rattle.lamps.specs.declared.LampsAnswer.{LampsAnswer}
-use Rattle.lamps.specs.declared.LampsAnswer.the-variants.{Shown, Refused}
+use Rattle.net.specs.declared.Verdict.the-variants.{Accepted, Refused}
 use Rattle.lamps.specs.declared.Lamps.{Lamps}
 
 -- as many flags as firings can be live: that of each live firing in its order, then no
@@ -23,16 +22,11 @@ litOf t ls = table maxLive (λ i. ltb i (length ls) && onTop maxBases t (getD ls
 
 -- the lamps of all live firings, with their number
 abbrev pub shown : List ℕ → List LiveLine → Lamps
-shown t ls = record { answer = Shown; count = length ls; lit = litOf t ls }
+shown t ls = record { answer = Accepted; count = length ls; lit = litOf t ls }
 
 -- a refused call: no lamp is lit
 unfoldable pub notShown : ℕ → Lamps
 notShown n = record { answer = Refused n; count = 0; lit = replicate maxLive false }
-
--- Document 01's number of each answer; 0 where the lamps are shown.
-abbrev pub lampsNumber : LampsAnswer → ℕ
-lampsNumber Shown = 0
-lampsNumber (Refused n) = n
 
 -- ---- By the arrays
 
@@ -41,7 +35,7 @@ abbrev pub litAt : List ℕ → ℕ → List ℕ → List ℕ → ℕ → Bool
 litAt t live keys moved i = ltb i live && onTopIn t (setOf maxBases (getD moved i 0)) (getD keys i 0)
 
 abbrev pub shownIn : List ℕ → ℕ → List ℕ → List ℕ → Lamps
-shownIn t live keys moved = record { answer = Shown; count = live; lit = table maxLive (litAt t live keys moved) }
+shownIn t live keys moved = record { answer = Accepted; count = live; lit = table maxLive (litAt t live keys moved) }
 
 -- the firing of a key; no where it is not live
 abbrev pub litKey : List ℕ → ℕ → List ℕ → List ℕ → Key → Bool

@@ -12,16 +12,11 @@ use movers::table::on_top;
 use net::Key;
 use net::MAX_BASES;
 use net::MAX_LIVE;
-
-// The answer to a call for the lamps; Refused has the number of document 01's list.
-pub enum LampsAnswer {
-    Shown,
-    Refused(u8),
-}
+use net::Verdict;
 
 // The answer, how many firings are live, and a flag for each of them in its order: whether it can come off. Unused flags are no.
 pub struct Lamps {
-    pub answer: LampsAnswer,
+    pub answer: Verdict,
     pub count: usize,
     pub lit: [bool; MAX_LIVE],
 }
@@ -77,7 +72,7 @@ pub fn show<'a>(
         i += 1;
     }
     Lamps {
-        answer: LampsAnswer::Shown,
+        answer: Verdict::Accepted,
         count: live,
         lit: lit,
     }
@@ -88,7 +83,7 @@ pub fn show_none(n: u8) -> Lamps
     ensures { λ r. ⌜ r ≡ notShown n ⌝ }
 {
     Lamps {
-        answer: LampsAnswer::Refused(n),
+        answer: Verdict::Refused(n),
         count: 0,
         lit: [false; MAX_LIVE],
     }

@@ -18,7 +18,7 @@ use Rattle.firings.specs.Lines.{stepsOf}
 use Rattle.listing.specs.First.{stepAt, nextAt, withoutAt, ordered, listing}
 use Rattle.listing.specs.Listing.{listingOf}
 use Rattle.listing.specs.declared.Listing.{Listing}
-use Rattle.listing.specs.declared.ListingAnswer.the-variants.{Given}
+use Rattle.net.specs.declared.Verdict.the-variants.{Accepted}
 
 pub ordered-long : (n : ℕ) (ls : List LiveLine) → length (ordered n ls) ≡ n
 ordered-long zero ls = refl
@@ -37,7 +37,7 @@ module _ (os : List LiveLine) (n k : ℕ) (ls : List LiveLine) (e : drop n os �
 -- the whole array
 pub filled : (ls : List LiveLine) (n : ℕ) (a : List Transition) → n ≡ length ls
     → a ≡ table n (λ x. transition (stepAt (ordered (length ls) ls) x)) ++ drop n (replicate maxLive (transition 0))
-    → record { answer = Given; count = n; transitions = a } ≡ listingOf (listing ls)
+    → record { answer = Accepted; count = n; transitions = a } ≡ listingOf (listing ls)
 filled ls n a e q =
     let os : List LiveLine = ordered (length ls) ls in
     let ns : List ℕ = listing ls in
@@ -47,7 +47,7 @@ filled ls n a e q =
     ∙ ap (map (λ (l : LiveLine). transition (l .transition .0))) (table-list os noLine) ∙ both os in
     let long : length (map transition ns) ≡ n = length-of ns ∙ size in
     λ i. record {
-      answer = Given;
+      answer = Accepted;
       count = sym size i;
       transitions = (q ∙ (λ x. all x ++ drop-replicate n maxLive (transition 0) x) ∙ ap (λ (k : ℕ). map transition ns ++ replicate (maxLive - k) (transition 0)) (sym long)) i;
     }

@@ -7,19 +7,13 @@ use Rattle.net.specs.Limits.{maxLive}
 use Rattle.net.specs.Journal.{transition}
 use Rattle.net.specs.declared.Transition.{Transition}
 use Rattle.marking.specs.Form.{padWith}
-use Rattle.listing.specs.declared.ListingAnswer.{ListingAnswer}
-use Rattle.listing.specs.declared.ListingAnswer.the-variants.{Given, Refused}
+use Rattle.net.specs.declared.Verdict.the-variants.{Accepted, Refused}
 use Rattle.listing.specs.declared.Listing.{Listing}
 
 -- step numbers in their order, with their number; every entry after them holds 0
 abbrev pub listingOf : List ℕ → Listing
-listingOf ns = record { answer = Given; count = length ns; transitions = padWith (transition 0) maxLive (map transition ns) }
+listingOf ns = record { answer = Accepted; count = length ns; transitions = padWith (transition 0) maxLive (map transition ns) }
 
 -- a refused call: the empty list
 unfoldable pub noListing : ℕ → Listing
 noListing n = record { answer = Refused n; count = 0; transitions = replicate maxLive (transition 0) }
-
--- The papers' number of each answer; 0 where a listing is given.
-abbrev pub listingNumber : ListingAnswer → ℕ
-listingNumber Given = 0
-listingNumber (Refused n) = n

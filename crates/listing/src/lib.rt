@@ -14,18 +14,13 @@ use firings::close_up;
 use firings::firing_at;
 use net::MAX_LIVE;
 use net::Transition;
+use net::Verdict;
 use words::shares;
 use words::union;
 
-// The answer to a call for the listing; Refused has the number of document 01's list.
-pub enum ListingAnswer {
-    Given,
-    Refused(u8),
-}
-
 // The answer, how many firings are live, and their step numbers in the order of the listing. Unused entries hold 0.
 pub struct Listing {
-    pub answer: ListingAnswer,
+    pub answer: Verdict,
     pub count: usize,
     pub transitions: [Transition; MAX_LIVE],
 }
@@ -101,7 +96,7 @@ pub fn list_steps(
         n += 1;
     }
     Listing {
-        answer: ListingAnswer::Given,
+        answer: Verdict::Accepted,
         count: live,
         transitions: steps,
     }
@@ -112,7 +107,7 @@ pub fn list_none(n: u8) -> Listing
     ensures { λ r. ⌜ r ≡ noListing n ⌝ }
 {
     Listing {
-        answer: ListingAnswer::Refused(n),
+        answer: Verdict::Refused(n),
         count: 0,
         transitions: [Transition(0); MAX_LIVE],
     }

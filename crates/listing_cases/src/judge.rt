@@ -16,7 +16,6 @@ use case_records::heard::SAID;
 use case_records::heard::commanded;
 use case_tools::bytes::byte;
 use generated::commands::bytes_of;
-use listing::ListingAnswer;
 use net::MAX_LIVE;
 use net::Transition;
 use oracle::FIRED;
@@ -64,14 +63,6 @@ pub fn turn(c: &mut [u64], r: Record, sheet: &[u8], s: &mut [u64], g: u64) -> Re
     next
 }
 
-// The number of an answer; 0 where the listing is given.
-fn answer_number(a: ListingAnswer) -> u64 {
-    match a {
-        ListingAnswer::Given => 0,
-        ListingAnswer::Refused(n) => n as u64,
-    }
-}
-
 // All entries, used or not.
 fn lay_steps(t: &mut [u64], steps: [Transition; MAX_LIVE]) {
     let mut i: usize = 0;
@@ -88,7 +79,7 @@ pub fn lay_told(t: &mut [u64], r: Record, sheet: &[u8]) {
     let a = l.answer;
     let steps = l.transitions;
     lay_steps(t, steps);
-    set_counts(t, l.count, answer_number(a));
+    set_counts(t, l.count, a.number() as u64);
 }
 
 // What differs of two listings: the numbers, the counts, any of the 256 entries.

@@ -10,8 +10,7 @@ use Rattle.net.specs.Journal.{key}
 use Rattle.firings.specs.Lines.{firingAt}
 use Rattle.firings.specs.declared.Firing.{Firing}
 use Rattle.firings.specs.declared.Firings.{Firings}
-use Rattle.live_list.specs.declared.LiveAnswer.{LiveAnswer}
-use Rattle.live_list.specs.declared.LiveAnswer.the-variants.{Listed, Refused}
+use Rattle.net.specs.declared.Verdict.the-variants.{Accepted, Refused}
 use Rattle.live_list.specs.declared.LiveFirings.{LiveFirings}
 
 -- what an unused entry of a list holds
@@ -28,13 +27,8 @@ listOf f = table maxLive (liveAt f)
 
 -- the list of a record's live firings, with their number
 abbrev pub listed : Firings → LiveFirings
-listed f = record { answer = Listed; count = f .live; firings = listOf f }
+listed f = record { answer = Accepted; count = f .live; firings = listOf f }
 
 -- a refused call: no firing, and zeros
 unfoldable pub notListed : ℕ → LiveFirings
 notListed n = record { answer = Refused n; count = 0; firings = replicate maxLive noFiring }
-
--- Document 01's number of each answer; 0 where the firings are listed.
-abbrev pub liveNumber : LiveAnswer → ℕ
-liveNumber Listed = 0
-liveNumber (Refused n) = n

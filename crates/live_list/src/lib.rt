@@ -9,16 +9,11 @@ use firings::Firing;
 use firings::firing_at;
 use net::Key;
 use net::MAX_LIVE;
-
-// The answer to a call for the live firings; Refused has the number of document 01's list.
-pub enum LiveAnswer {
-    Listed,
-    Refused(u8),
-}
+use net::Verdict;
 
 // The answer, how many firings are live, and those firings in their order. Unused entries hold 0.
 pub struct LiveFirings {
-    pub answer: LiveAnswer,
+    pub answer: Verdict,
     pub count: usize,
     pub firings: [Firing; MAX_LIVE],
 }
@@ -80,7 +75,7 @@ pub fn list_live<'a>(
 {
     let firings = list_of(transitions, keys, moved, live);
     LiveFirings {
-        answer: LiveAnswer::Listed,
+        answer: Verdict::Accepted,
         count: live,
         firings: firings,
     }
@@ -93,7 +88,7 @@ pub fn list_none(n: u8) -> LiveFirings
     let zero = no_firing();
     let firings = [zero; MAX_LIVE];
     LiveFirings {
-        answer: LiveAnswer::Refused(n),
+        answer: Verdict::Refused(n),
         count: 0,
         firings: firings,
     }

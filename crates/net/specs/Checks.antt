@@ -4,6 +4,8 @@ use mathlib.Core.Bool.{Bool, not}
 use mathlib.Core.List.{List, [], _∷_, map}
 use Prim.Native.Nat.{ℕ}
 use Rattle.net.specs.Tests.{pick, all}
+use Rattle.net.specs.declared.Verdict.{Verdict}
+use Rattle.net.specs.declared.Verdict.the-variants.{Accepted, Refused}
 
 -- A refusal: its number, and whether its condition holds.
 pub record Check : Type 0 where
@@ -24,3 +26,9 @@ first (c ∷ cs) = pick (c .holds) (c .number) (first cs)
 
 abbrev pub numbers : List Check → List ℕ
 numbers cs = map (λ (c : Check). c .number) cs
+
+-- The papers' number of each answer that is an acceptance or a refusal; 0 for an acceptance (01, questions the contracts settle:
+-- answers that are enums).
+abbrev pub verdictNumber : Verdict → ℕ
+verdictNumber Accepted = 0
+verdictNumber (Refused n) = n

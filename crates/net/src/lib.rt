@@ -1,5 +1,7 @@
-// The types and limits that definitions and code share. No function: specs/ has document 01's definitions of a net,
-// of firing, taking back and the session book, proofs/ what holds of them, for any number of bases.
+// The types and limits that definitions and code share; one method, the number of an answer. specs/ has document 01's definitions
+// of a net, of firing, taking back and the session book, proofs/ what holds of them, for any number of bases.
+ghost use mathlib.Core.Path.{_≡_};
+ghost use Rattle.net.specs.Checks.{verdictNumber};
 
 // The number of a place, and of a base (document 01: a part), counted from 0.
 pub type Place = u8;
@@ -24,6 +26,24 @@ pub struct Transition(pub u16);
 
 // A firing's key (a serial).
 pub struct Key(pub u16);
+
+// The answer of a call that gives what it is asked for, or is turned away by a number of the papers' lists.
+pub enum Verdict {
+    Accepted,
+    Refused(u8),
+}
+
+impl Verdict {
+    // The number that the papers have for the answer; 0 where it is no refusal.
+    pub fn number(self) -> u8
+        ensures { λ r. ⌜ r ≡ verdictNumber self ⌝ }
+    {
+        match self {
+            Verdict::Accepted => 0,
+            Verdict::Refused(n) => n,
+        }
+    }
+}
 
 // The limits of a sheet: its bytes, places, bases, transitions, and a transition's entries.
 pub const MAX_SHEET: usize = 32768;

@@ -9,35 +9,31 @@ use lib.ListN.{length, take, drop, length-take}
 use lib.Seq.{sets}
 use Rattle.causal.proofs.Tests.{both}
 use Rattle.net.specs.Tests.{pick}
-use Rattle.net.specs.Checks.{clear, first}
+use Rattle.net.specs.Checks.{clear, first, verdictNumber}
 use Rattle.format.specs.Bytes.{wordAt}
 use Rattle.format.specs.NetOf.{netOf}
 use Rattle.sheet.specs.Checks.{sheetChecks}
 use Rattle.session.specs.Commands.{freshOf, zeroRecord, startOf}
-use Rattle.session.specs.declared.StartAnswer.{StartAnswer}
-use Rattle.session.specs.declared.StartAnswer.the-variants.{Started, NotStarted}
+use Rattle.net.specs.declared.Verdict.{Verdict}
+use Rattle.net.specs.declared.Verdict.the-variants.{Accepted, Refused}
 use Rattle.session.specs.declared.Start.{Start}
 use Rattle.command_list.specs.Commands.{commandsIn}
 use Rattle.output.specs.Output.{maxCommands, sheetIn, commandBytes, refusedSheet, sessionText, output}
 
-isStarted : StartAnswer → Bool
-isStarted Started = true
-isStarted (NotStarted n) = false
-
-numberOf : StartAnswer → ℕ
-numberOf Started = 0
-numberOf (NotStarted n) = n
+isStarted : Verdict → Bool
+isStarted Accepted = true
+isStarted (Refused n) = false
 
 module _ (s : List ℕ) (x : Start) (e : x ≡ startOf s) where
   abbrev made : Bool → Start
-  made b = pick b (record { answer = Started; session = freshOf s }) (record { answer = NotStarted (first (sheetChecks s)); session = zeroRecord })
+  made b = pick b (record { answer = Accepted; session = freshOf s }) (record { answer = Refused (first (sheetChecks s)); session = zeroRecord })
 
   by-checks : (b : Bool) → clear (sheetChecks s) ≡ b → x ≡ made b
   unfolding startOf
   by-checks b q = e ∙ ap made q
 
   -- a session that is started: the sheet is accepted, and the record is fresh
-  pub start-accepted : x .answer ≡ Started → (clear (sheetChecks s) ≡ true) × (x .session ≡ freshOf s)
+  pub start-accepted : x .answer ≡ Accepted → (clear (sheetChecks s) ≡ true) × (x .session ≡ freshOf s)
   unfolding isStarted
   start-accepted a = go (clear (sheetChecks s)) refl
     where
@@ -46,13 +42,13 @@ module _ (s : List ℕ) (x : Start) (e : x ≡ startOf s) where
       go false q = both (isStarted (x .answer)) (ap isStarted a) (ap (λ (z : Start). isStarted (z .answer)) (by-checks false q))
 
   -- one that is not: some check holds, and the answer has the first one's number
-  pub start-refused : (n : ℕ) → x .answer ≡ NotStarted n → (clear (sheetChecks s) ≡ false) × (n ≡ first (sheetChecks s))
-  unfolding isStarted numberOf
+  pub start-refused : (n : ℕ) → x .answer ≡ Refused n → (clear (sheetChecks s) ≡ false) × (n ≡ first (sheetChecks s))
+  unfolding isStarted
   start-refused n a = go (clear (sheetChecks s)) refl
     where
       go : (b : Bool) → clear (sheetChecks s) ≡ b → (b ≡ false) × (n ≡ first (sheetChecks s))
       go true q = both (isStarted (x .answer)) (ap (λ (z : Start). isStarted (z .answer)) (by-checks true q)) (ap isStarted a)
-      go false q = (refl, sym (ap numberOf a) ∙ ap (λ (z : Start). numberOf (z .answer)) (by-checks false q))
+      go false q = (refl, sym (ap verdictNumber a) ∙ ap (λ (z : Start). verdictNumber (z .answer)) (by-checks false q))
 
 -- ---- The whole output
 

@@ -25,9 +25,9 @@ use format::base_count;
 use format::word_at;
 use net::MAX_BASES;
 use net::Place;
+use net::Verdict;
 use report::put_line;
 use session::Record;
-use session::StartAnswer;
 use session::run::run;
 use session_start::start;
 use tally::Tally;
@@ -199,11 +199,11 @@ pub fn write_output(input: &[u8], buf: &mut [u8]) -> usize
     let begun = start(sheet);
     let answer = begun.answer;
     match answer {
-        StartAnswer::Started => {
+        Verdict::Accepted => {
             let commands = commands_in(input);
             let r = begun.session;
             put_session(buf, sheet, commands, r)
         }
-        StartAnswer::NotStarted(n) => put_refused(buf, n),
+        Verdict::Refused(n) => put_refused(buf, n),
     }
 }

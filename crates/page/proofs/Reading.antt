@@ -20,7 +20,7 @@ use Rattle.firings.specs.declared.Firing.{Firing}
 use Rattle.live_list.specs.List.{noFiring}
 use Rattle.page_lines.specs.Page.{Row, row, rowsIn, pageBytes, pageText}
 use Rattle.page_lines.specs.Answers.{isPage, writtenIf, Laid}
-use Rattle.page_lines.specs.declared.PageAnswer.{PageAnswer}
+use Rattle.net.specs.declared.Verdict.{Verdict}
 use Rattle.page.specs.declared.Rows.{Rows}
 use Rattle.page.specs.Rows.{rowOf, noRows, withFiring, lentFirings, Paged}
 
@@ -91,7 +91,7 @@ unwritten true d t u b = refl
 unwritten false d t u b = refl
 
 -- A page of what was gathered is a page of the list: one that is too long is refused, and no row of it is looked at.
-pub paged-of : (fs : List Firing) (k : ℕ) (b : List ℕ) (a : PageAnswer) (b′ : List ℕ) (r : Rows) → r ≡ foldl withFiring noRows fs → Laid (rowsTo r (length fs)) (length fs) k b a b′ → Paged fs k b a b′
+pub paged-of : (fs : List Firing) (k : ℕ) (b : List ℕ) (a : Verdict) (b′ : List ℕ) (r : Rows) → r ≡ foldl withFiring noRows fs → Laid (rowsTo r (length fs)) (length fs) k b a b′ → Paged fs k b a b′
 paged-of fs k b a b′ r e w = (
   w .0,
   w .1 ∙ test (ltb maxLive (length fs))

@@ -10,7 +10,7 @@ use Rattle.words.specs.Sets.{setOf, sizeOf}
 use Rattle.firings.specs.declared.Firing.{Firing}
 use Rattle.page_lines.specs.Page.{Row, row}
 use Rattle.page_lines.specs.Answers.{Laid}
-use Rattle.page_lines.specs.declared.PageAnswer.{PageAnswer}
+use Rattle.net.specs.declared.Verdict.{Verdict}
 use Rattle.page.specs.declared.Rows.{Rows}
 
 -- what a page says of a firing: its serial, its step, how many parts it moved
@@ -18,7 +18,7 @@ abbrev pub rowOf : Firing → Row
 rowOf f = row (f .key .0) (f .transition) (sizeOf (setOf maxBases (f .moved)))
 
 -- Page k of the list fs was asked for into the buffer b: the answer a came, and b′ is the buffer after.
-abbrev pub Paged : List Firing → ℕ → List ℕ → PageAnswer → List ℕ → Type 0
+abbrev pub Paged : List Firing → ℕ → List ℕ → Verdict → List ℕ → Type 0
 Paged fs k b a b′ = Laid (map rowOf fs) (length fs) k b a b′
 
 -- as many firings as the call by value takes; src/lib.rt has it for the code

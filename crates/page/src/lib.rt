@@ -12,7 +12,7 @@ ghost use Rattle.page.specs.Rows.{noRows, withFiring, lentFirings, Paged
 use firings::Firing;
 use net::Key;
 use net::MAX_LIVE;
-use page_lines::PageAnswer;
+use net::Verdict;
 use page_lines::lay_page;
 use words::count_bases;
 
@@ -64,7 +64,7 @@ fn gathered(mut r: Rows, list: &[Firing]) -> Rows
 }
 
 // The page of gathered rows, for a list of n firings.
-fn laid(r: Rows, n: usize, number: u16, buf: &mut [u8]) -> PageAnswer
+fn laid(r: Rows, n: usize, number: u16, buf: &mut [u8]) -> Verdict
     ensures { λ a. ⌜ Laid (rowsIn (r .keys) (r .steps) (r .moved) n) n number (now (buf .entry)) a (now (buf .exit)) ⌝ }
 {
     let keys = r.keys;
@@ -74,7 +74,7 @@ fn laid(r: Rows, n: usize, number: u16, buf: &mut [u8]) -> PageAnswer
 }
 
 // A page of the list into the lent buffer: every byte of it is said, and nothing is written where the page is refused.
-pub fn page(list: &[Firing], number: u16, buf: &mut [u8]) -> PageAnswer
+pub fn page(list: &[Firing], number: u16, buf: &mut [u8]) -> Verdict
     ensures { λ a. ⌜ Paged (now (list .entry)) number (now (buf .entry)) a (now (buf .exit)) ⌝ }
 {
     let rows = gathered(no_rows(), list);
@@ -92,7 +92,7 @@ fn at_most(n: usize) -> usize
 }
 
 // The same by value, so that a program can make the call: the first n firings of an array are lent to `page`.
-pub fn page_of(firings: [Firing; LENT], n: usize, number: u16, buf: &mut [u8]) -> PageAnswer
+pub fn page_of(firings: [Firing; LENT], n: usize, number: u16, buf: &mut [u8]) -> Verdict
     ensures { λ a. ⌜ Paged (take n firings) number (now (buf .entry)) a (now (buf .exit)) ⌝ }
 {
     let k = at_most(n);

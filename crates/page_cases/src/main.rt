@@ -4,9 +4,8 @@ use firings::Firing;
 use io::print_decimal;
 use io::write_all;
 use net::Key;
+use net::Verdict;
 use page::page_of;
-use page_lines::PageAnswer;
-use page_lines::page_number;
 use words::low_bits;
 
 // One more than a list may have.
@@ -65,8 +64,8 @@ fn print_kept(kept: bool) {
 }
 
 // The answer, and the page.
-fn print_answer(a: PageAnswer, buf: &[u8]) {
-    let number = page_number(a);
+fn print_answer(a: Verdict, buf: &[u8]) {
+    let number = a.number();
     if number != 0 {
         write_all(1, b"refused ");
         print_decimal(1, number as u64);

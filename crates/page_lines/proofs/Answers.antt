@@ -14,7 +14,7 @@ use Rattle.net.specs.Checks.{Check, check, clear, first}
 use Rattle.net.proofs.Tests.{and-l}
 use Rattle.page_lines.specs.Page.{Row, pageBytes, pageText}
 use Rattle.page_lines.specs.Answers.{pagesOf, isPage, pageChecks, pageAnswer, writtenIf, Laid}
-use Rattle.page_lines.specs.declared.PageAnswer.the-variants.{Printed, Refused}
+use Rattle.net.specs.declared.Verdict.the-variants.{Accepted, Refused}
 
 -- three tests with numbers other than 0
 abbrev three : Bool → Bool → Bool → List Check
@@ -48,7 +48,7 @@ laid-refused rs n k b m e h =
     let o = one-holds (ltb (length b) pageBytes) (ltb maxLive n) (not (isPage n k)) (λ z. h (e ∙ z)) in
     (rw (o, e), rw o, e)
 
-pub laid-printed : (rs : List Row) (n k : ℕ) (b b′ : List ℕ) (m : ℕ) → m ≡ first (pageChecks (length b) n k) → m ≡ 0 → b′ ≡ sets b 0 (pageText rs k) → Laid rs n k b Printed b′
+pub laid-printed : (rs : List Row) (n k : ℕ) (b b′ : List ℕ) (m : ℕ) → m ≡ first (pageChecks (length b) n k) → m ≡ 0 → b′ ≡ sets b 0 (pageText rs k) → Laid rs n k b Accepted b′
 unfolding pageAnswer writtenIf
 laid-printed rs n k b b′ m e h w =
     let o = none-clear (ltb (length b) pageBytes) (ltb maxLive n) (not (isPage n k)) (sym e ∙ h) in

@@ -1,7 +1,7 @@
 -- Proofs of what specs/Claims says of ruled pages: every line fits, and the pages hold each firing once and in order.
 -- Assumes nothing.
 use mathlib.Core.Path.{_≡_, refl, sym, ap, _∙_}
-use mathlib.Core.Bool.{Bool, true, false, not, _&&_}
+use mathlib.Core.Bool.{Bool, true, not, _&&_}
 use mathlib.Core.List.{List, [], _∷_, _++_, map}
 use Prim.Native.Nat.{ℕ, zero, suc, _+_, _-_, _*_, _/_, _<_, _≤_}
 use native.Mathlib.Omega.{arith}
@@ -11,7 +11,8 @@ use lib.ListN.{length, getD, drop, length-append}
 use borrow.Author.Tests.{lt-ltb, le-ltb, ltb-true, ltb-false, leb-true, eqb-true, not-true}
 use Rattle.net.specs.Limits.{maxBases, maxLive}
 use Rattle.net.specs.Tests.{pick, all, table}
-use Rattle.net.specs.Checks.{check, clear, first}
+use Rattle.net.specs.Checks.{Check, check, clear, first}
+use Rattle.net.proofs.Checks.{first-has}
 use Rattle.net.proofs.Tests.{and-l, and-r, pick-case}
 use Rattle.net.proofs.Tables.{table-cong}
 use Rattle.bonds.proofs.Fill.{table-map}
@@ -22,8 +23,7 @@ use Rattle.text.proofs.Digits.{digits-length}
 use Rattle.text.proofs.Writes.{sets-front}
 use Rattle.page_lines.specs.Page.{Row, row, line, columns, pageRows, pageFrom, rightIn, rowText, rowLine, blankLine, lastLine, lineAt, pageLines, pageBytes, pageText}
 use Rattle.page_lines.specs.Answers.{pagesOf, isPage, pageChecks, pageAnswer, writtenIf}
-use Rattle.page_lines.specs.declared.PageAnswer.the-variants.{Refused}
-use Rattle.page_lines.specs.Claims.{holdable, FitsColumns, PageFits, linesTo, PagesHold, PrintedWhole}
+use Rattle.page_lines.specs.Claims.{holdable, FitsColumns, PageFits, linesTo, PagesHold, PrintedWhole, TurnedAway}
 use Rattle.page_lines.proofs.Lines.{fits-3, fits-4, fits-5, right-length, line-length}
 
 -- ---- Every line fits
@@ -163,7 +163,15 @@ pub last-6 : lastLine 6 ≡ ascii "page 6                                  \n"
 unfolding line decimal
 last-6 = refl
 
-pub away : (rs : List Row) (k : ℕ) (b : List ℕ) → clear (pageChecks (length b) (length rs) k) ≡ false
-    → (pageAnswer (pageChecks (length b) (length rs) k) ≡ Refused (first (pageChecks (length b) (length rs) k))) × (writtenIf (pageChecks (length b) (length rs) k) (pageText rs k) b ≡ b)
+pub away : (rs : List Row) (k : ℕ) (b : List ℕ) → TurnedAway rs k b
 unfolding pageAnswer writtenIf
-away rs k b h = (rw h, rw h)
+away rs k b = record {
+  answer = λ h. rw h;
+  number = λ h.
+      let w = first-has (λ (n : ℕ). leb 23 n && leb n 25) cs refl h in
+      (leb-true 23 (first cs) (and-l (leb 23 (first cs)) (leb (first cs) 25) w), leb-true (first cs) 25 (and-r (leb 23 (first cs)) (leb (first cs) 25) w));
+  buffer = λ h. rw h;
+}
+  where
+    cs : List Check
+    cs = pageChecks (length b) (length rs) k

@@ -9,10 +9,10 @@ use lib.ListN.{length}
 use lib.Seq.{sets}
 use Rattle.net.specs.Limits.{maxLive}
 use Rattle.net.specs.Tests.{pick}
-use Rattle.net.specs.Checks.{Check, check, clear, first}
+use Rattle.net.specs.Checks.{Check, check, clear, first, verdictNumber}
 use Rattle.page_lines.specs.Page.{Row, pageBytes, pageText}
-use Rattle.page_lines.specs.declared.PageAnswer.{PageAnswer}
-use Rattle.page_lines.specs.declared.PageAnswer.the-variants.{Printed, Refused}
+use Rattle.net.specs.declared.Verdict.{Verdict}
+use Rattle.net.specs.declared.Verdict.the-variants.{Accepted, Refused}
 
 -- how many pages a list of n firings has: 50 to a page; an empty list has one
 abbrev pub pagesOf : ℕ → ℕ
@@ -31,19 +31,14 @@ pageChecks room n k =
     ∷ []
 
 -- the answer: printed where no check holds, else refused with the number of the first that does
-unfoldable pub pageAnswer : List Check → PageAnswer
-pageAnswer cs = pick (clear cs) Printed (Refused (first cs))
-
--- the number that document 02 has for an answer; 0 for a page that is printed
-abbrev pub pageNumber : PageAnswer → ℕ
-pageNumber Printed = 0
-pageNumber (Refused n) = n
+unfoldable pub pageAnswer : List Check → Verdict
+pageAnswer cs = pick (clear cs) Accepted (Refused (first cs))
 
 -- a text in a buffer from byte 0 on where no check holds; else nothing is written
 unfoldable pub writtenIf : List Check → List ℕ → List ℕ → List ℕ
 writtenIf cs t b = pick (clear cs) (sets b 0 t) b
 
 -- Page k of the list rs was asked for, of n firings, into the buffer b: the answer a came, and b′ is the buffer after.
-abbrev pub Laid : List Row → ℕ → ℕ → List ℕ → PageAnswer → List ℕ → Type 0
+abbrev pub Laid : List Row → ℕ → ℕ → List ℕ → Verdict → List ℕ → Type 0
 Laid rs n k b a b′ = (a ≡ pageAnswer (pageChecks (length b) n k)) × (b′ ≡ writtenIf (pageChecks (length b) n k) (pageText rs k) b)
-    × (pageNumber a ≡ first (pageChecks (length b) n k))
+    × (verdictNumber a ≡ first (pageChecks (length b) n k))

@@ -5,22 +5,17 @@ ghost use Prim.Native.Nat.{_+_, _-_, _*_, _<_, _≤_};
 ghost use mathlib.Core.List.{_++_};
 ghost use lib.ListN.{length};
 ghost use Rattle.net.specs.Limits.{maxLive};
-ghost use Rattle.net.specs.Checks.{first};
+ghost use Rattle.net.specs.Checks.{first, verdictNumber};
 ghost use Rattle.text.specs.Ascii.{ascii};
 ghost use Rattle.text.specs.Decimal.{decimal};
 ghost use Rattle.text.specs.Joined.{joined};
 ghost use Rattle.text.specs.Writes.{Wrote, Filled};
 ghost use Rattle.page_lines.specs.Page.{row, columns, pageBytes, blanks, rightIn, rowLine, lastLine, lineAt, pageLines, pageText, rowsIn};
-ghost use Rattle.page_lines.specs.Answers.{pagesOf, pageChecks, pageNumber, Laid};
+ghost use Rattle.page_lines.specs.Answers.{pagesOf, pageChecks, Laid};
 use net::MAX_LIVE;
+use net::Verdict;
 use text::put_digits;
 use text::put_word;
-
-// The answer to a page that is asked for; Refused has the number of document 02's list.
-pub enum PageAnswer {
-    Printed,
-    Refused(u8),
-}
 
 // k spaces. The callers have seen that the buffer has room, here and in the writers below.
 fn put_blanks(buf: &mut [u8], at: usize, k: usize) -> usize
@@ -196,23 +191,13 @@ pub fn lay_page(
     moved: &[u8; MAX_LIVE],
     n: usize,
     number: u16,
-) -> PageAnswer
+) -> Verdict
     ensures { λ r. ⌜ Laid (rowsIn (now (keys .entry)) (now (steps .entry)) (now (moved .entry)) n) n number (now (buf .entry)) r (now (buf .exit)) ⌝ }
 {
     let refusal = page_refusal(buf.len(), n, number);
     if refusal != 0 {
-        return PageAnswer::Refused(refusal);
+        return Verdict::Refused(refusal);
     }
     put_page(buf, keys, steps, moved, n, number);
-    PageAnswer::Printed
-}
-
-// The number that document 02 has for an answer; 0 for a page that is printed.
-pub fn page_number(a: PageAnswer) -> u8
-    ensures { λ r. ⌜ r ≡ pageNumber a ⌝ }
-{
-    match a {
-        PageAnswer::Printed => 0,
-        PageAnswer::Refused(n) => n,
-    }
+    Verdict::Accepted
 }

@@ -8,7 +8,6 @@ ghost use Rattle.output.specs.Input.{lookedAt, maxInput};
 use format::word_at;
 use output::MAX_COMMANDS;
 use sheet::check_sheet;
-use sheet::sheet_number;
 
 // How many bytes are there; whether they are all that were asked for; whether a read failed. Where neither holds, the input
 // has ended.
@@ -97,7 +96,7 @@ pub fn read_input(room: &mut [u8]) -> Got
         return second;
     }
     let checked = check_sheet(&room[2..sheet_end]);
-    if sheet_number(checked) != 0 {
+    if checked.number() != 0 {
         return second;
     }
     read_to(room, sheet_end, sheet_end + 3 * MAX_COMMANDS, 0)

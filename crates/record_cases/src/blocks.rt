@@ -11,7 +11,6 @@ use case_records::heard::commanded;
 use case_records::same_record;
 use oracle::sets::get;
 use session::Record;
-use session::block::BlockAnswer;
 use session::block::BlockCounted;
 use session::block::BlockOutcome;
 use session::block::block_with;
@@ -93,18 +92,11 @@ fn record_after(r: Record, sheet: &[u8], whole: usize) -> Record {
     commanded(before, sheet, b"\x01\x00\x00", &mut h)
 }
 
-fn number_of(a: BlockAnswer) -> u64 {
-    match a {
-        BlockAnswer::Ran => 0,
-        BlockAnswer::NotRun(n) => n as u64,
-    }
-}
-
 // Whether the outcome has this number, count and record.
 fn outcome_holds(o: BlockOutcome, number: u64, count: usize, after: Record) -> bool {
     let a = o.answer;
     let r = o.session;
-    (number_of(a) == number) & ((o.count == count) & same_record(r, after))
+    (a.number() as u64 == number) & ((o.count == count) & same_record(r, after))
 }
 
 // What the block gave on a record with so many whole commands, one cut short or none, and so many answers.

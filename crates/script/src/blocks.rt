@@ -17,7 +17,6 @@ use crate::state::mistake;
 use crate::state::opened;
 use crate::state::tally_of;
 use session::Record;
-use session::block::BlockAnswer;
 use session::block::BlockCounted;
 use session::block::BlockOutcome;
 use session::block::block_with;
@@ -66,14 +65,6 @@ fn put_ran(buf: &mut [u8], n: usize, words: &[u8; MOST], values: &[u16; MOST]) -
     pos
 }
 
-// The number that a block was refused by; 0 where it was not.
-fn block_refusal(a: BlockAnswer) -> u8 {
-    match a {
-        BlockAnswer::Ran => 0,
-        BlockAnswer::NotRun(n) => n,
-    }
-}
-
 fn put_handed(
     buf: &mut [u8],
     refusal: u8,
@@ -115,7 +106,7 @@ fn outcome(
     answer: &mut [u8],
 ) -> Record {
     let a = o.answer;
-    let refusal = block_refusal(a);
+    let refusal = a.number();
     let n = put_handed(answer, refusal, o.count, words, values);
     opened(d, n);
     d[IN_BLOCK] = 0;

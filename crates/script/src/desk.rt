@@ -16,7 +16,6 @@ use crate::enter::read_lines;
 use crate::form::WAY_BACK;
 use crate::form::form_of;
 use crate::questions::put_question;
-use crate::questions::start_refusal;
 use crate::say::print_total;
 use crate::sheets::line_end;
 use crate::state::ANSWERS;
@@ -71,7 +70,7 @@ fn begun(d: &mut [usize; STATE], n: usize, refusal: u8) {
 
 fn started(d: &mut [usize; STATE], s: Start, answer: &mut [u8]) -> Record {
     let a = s.answer;
-    let refusal = start_refusal(a);
+    let refusal = a.number();
     let n = put_start(answer, refusal, d[LENGTH]);
     begun(d, n, refusal);
     s.session

@@ -31,7 +31,6 @@ use firings::Firings;
 use format::base_count;
 use marking::Marking;
 use session::Record;
-use session::StartAnswer;
 use session_start::start;
 use why::why;
 use wording::answer::put_couplings;
@@ -54,19 +53,11 @@ use wording::put::say;
 use wording::reason::put_reason;
 use wording::refused::put_refused;
 
-// The number that a start was refused by; 0 where it was not.
-pub fn start_refusal(a: StartAnswer) -> u8 {
-    match a {
-        StartAnswer::Started => 0,
-        StartAnswer::NotStarted(n) => n,
-    }
-}
-
 // The number that starting on a sheet is refused by.
 pub fn refusal_of(sheet: &[u8]) -> u8 {
     let s = start(sheet);
     let a = s.answer;
-    start_refusal(a)
+    a.number()
 }
 
 // ---- why

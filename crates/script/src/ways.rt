@@ -13,7 +13,6 @@ use forms::has_form;
 use forms::nth_number;
 use net::MAX_LIVE;
 use session::Record;
-use way_back::WayAnswer;
 use way_back::WayBack;
 use why::Reason;
 use wording::answer::put_if;
@@ -176,14 +175,6 @@ fn put_no_way(buf: &mut [u8], sheet: &[u8], layout: &[u8], number: u8) -> usize 
     )
 }
 
-// The number that the call was refused by; 0 where it was not.
-fn way_refusal(a: WayAnswer) -> u8 {
-    match a {
-        WayAnswer::Found => 0,
-        WayAnswer::Refused(n) => n,
-    }
-}
-
 // `refused N` and why.
 fn put_refused_way(buf: &mut [u8], sheet: &[u8], layout: &[u8], refusal: u8) -> usize {
     let mut words = [0u8; ROOM];
@@ -196,7 +187,7 @@ fn put_refused_way(buf: &mut [u8], sheet: &[u8], layout: &[u8], refusal: u8) -> 
 // The set, or why there is none.
 fn put_way(buf: &mut [u8], sheet: &[u8], layout: &[u8], w: WayBack) -> usize {
     let answer = w.answer;
-    let refusal = way_refusal(answer);
+    let refusal = answer.number();
     if refusal == 0 {
         return put_found(buf, w);
     }

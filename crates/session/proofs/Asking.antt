@@ -5,11 +5,11 @@ use mathlib.Core.Bool.{Bool, true, false}
 use mathlib.Core.List.{List, [], append-nil}
 use Prim.Native.Nat.{ℕ}
 use Rattle.net.specs.Tests.{pick}
-use Rattle.net.specs.Checks.{Check, clear, first}
+use Rattle.net.specs.Checks.{Check, clear, first, verdictNumber}
 use Rattle.format.specs.NetOf.{netOf}
 use Rattle.sound.proofs.Refusing.{refused-first, refused-clear, passed-first, passed-clear}
 use Rattle.way_back.specs.Ways.{wayBack}
-use Rattle.way_back.specs.Answer.{wayOf, noWayBack, wayNumber, wayChecks, wayFrom}
+use Rattle.way_back.specs.Answer.{wayOf, noWayBack, wayChecks, wayFrom}
 use Rattle.way_back.specs.declared.WayBack.{WayBack}
 use Rattle.session.specs.Records.{heldIn, Sound}
 use Rattle.session.specs.Commands.{recordChecks}
@@ -35,12 +35,12 @@ module _ (s : List ℕ) (r : Record) (w : List ℕ) where
       sym (by-first (clear own) (first own) (passed-clear s (r .marking) (r .firings) (r .given) (r .movers) p own) (passed-first s (r .marking) (r .firings) (r .given) (r .movers) p own))
 
   -- the answer's number is that of the first check that holds
-  number-of : (a : Bool) (n : ℕ) → clear (wayBackChecks s r w) ≡ a → first (wayBackChecks s r w) ≡ n → (a ≡ true → n ≡ 0) → wayNumber (pick a (wayOf (wayBack (netOf s) w (heldIn s r))) (noWayBack n) .answer) ≡ n
+  number-of : (a : Bool) (n : ℕ) → clear (wayBackChecks s r w) ≡ a → first (wayBackChecks s r w) ≡ n → (a ≡ true → n ≡ 0) → verdictNumber (pick a (wayOf (wayBack (netOf s) w (heldIn s r))) (noWayBack n) .answer) ≡ n
   unfolding noWayBack
   number-of true n e f z = sym (z refl)
   number-of false n e f z = refl
 
-  pub way-number : (x : WayBack) → x ≡ wayBackOf s r w → wayNumber (x .answer) ≡ first (wayBackChecks s r w)
+  pub way-number : (x : WayBack) → x ≡ wayBackOf s r w → verdictNumber (x .answer) ≡ first (wayBackChecks s r w)
   way-number x e =
-      ap (λ (y : WayBack). wayNumber (y .answer)) (e ∙ by-first (clear (wayBackChecks s r w)) (first (wayBackChecks s r w)) refl refl)
+      ap (λ (y : WayBack). verdictNumber (y .answer)) (e ∙ by-first (clear (wayBackChecks s r w)) (first (wayBackChecks s r w)) refl refl)
       ∙ number-of (clear (wayBackChecks s r w)) (first (wayBackChecks s r w)) refl refl (λ h. ap first (sym (append-nil (wayBackChecks s r w))) ∙ first-clear (wayBackChecks s r w) [] h)

@@ -9,7 +9,7 @@ use lib.Dec.{ltb, eqb}
 use lib.ListN.{length}
 use borrow.Author.Tests.{ltb-false, eqb-true, eqb-false}
 use Rattle.net.specs.Tests.{pick}
-use Rattle.net.specs.Checks.{Check, check, clear, first}
+use Rattle.net.specs.Checks.{Check, check, clear, first, verdictNumber}
 use Rattle.net.proofs.Tests.{or-no-l, or-no-r}
 use Rattle.sound.proofs.Refusing.{refused-first, refused-clear, passed-first, passed-clear}
 use Rattle.tally.specs.declared.Tally.{Tally}
@@ -18,9 +18,9 @@ use Rattle.command_list.specs.Block.{maxBlock, unfitFor, turnedBy}
 use Rattle.session.specs.Records.{Sound}
 use Rattle.session.specs.Commands.{recordChecks}
 use Rattle.session.specs.Lists.{ranOf, RunGives}
-use Rattle.session.specs.Block.{blockChecks, blockNumber, Handed, ranBlock, turnedAway, notRun, blockOf, Blocked}
+use Rattle.session.specs.Block.{blockChecks, Handed, ranBlock, turnedAway, notRun, blockOf, Blocked}
 use Rattle.session.specs.declared.Record.{Record}
-use Rattle.session.specs.declared.block.BlockAnswer.the-variants.{Ran}
+use Rattle.net.specs.declared.Verdict.the-variants.{Accepted}
 use Rattle.session.specs.declared.block.BlockCounted.{BlockCounted}
 
 -- each list has an entry for each command
@@ -49,7 +49,7 @@ module _ (s : List ℕ) (r : Record) (t : Tally) (b words values : List ℕ) whe
         tally = ap (λ (z : BlockCounted). z .tally) q ∙ ap (λ (z : Handed). z .tally) y;
         words-are = ap (λ (z : Handed). z .words) y;
         values-are = ap (λ (z : Handed). z .values) y;
-        number = ap (λ (z : BlockCounted). blockNumber (z .outcome .answer)) q ∙ e;
+        number = ap (λ (z : BlockCounted). verdictNumber (z .outcome .answer)) q ∙ e;
       }
 
   away-refused : (n : ℕ) → n ≡ first (recordChecks s r []) → (n ≡ 0 → ⊥) → (x : BlockCounted) → x ≡ turnedAway r n t → Blocked s r t b words values (x .outcome) (x .tally) words values
@@ -80,12 +80,12 @@ module _ (s : List ℕ) (r : Record) (t : Tally) (b words values : List ℕ) whe
 
   pub block-ran : Sound s r → unfitFor b (length words) (length values) ≡ false
       → (next : Record) (u : Tally) (words′ values′ : List ℕ) (n : ℕ) → n ≡ howMany b → RunGives (ranOf s b r t) words values next u words′ values′
-      → Blocked s r t b words values (record { answer = Ran; count = n; session = next }) u words′ values′
+      → Blocked s r t b words values (record { answer = Accepted; count = n; session = next }) u words′ values′
   block-ran p h next u words′ values′ n e g =
       let c : clear all-checks ≡ true = passed-clear s (r .marking) (r .firings) (r .given) (r .movers) p own ∙ ap (λ (a : Bool). not a && true) h in
       let f : first all-checks ≡ 0 = passed-first s (r .marking) (r .firings) (r .given) (r .movers) p own ∙ ap (λ (a : Bool). pick a 26 0) h in
       let y : ranBlock (howMany b) words values (ranOf s b r t) ≡ blockOf s r t b words values = sym (by-first true 0 c f) in
-      let o : record { answer = Ran; count = n; session = next } ≡ ranBlock (howMany b) words values (ranOf s b r t) .outcome = λ i. record { answer = Ran; count = e i; session = g .session-is i } in
+      let o : record { answer = Accepted; count = n; session = next } ≡ ranBlock (howMany b) words values (ranOf s b r t) .outcome = λ i. record { answer = Accepted; count = e i; session = g .session-is i } in
       record {
         outcome = o ∙ ap (λ (z : Handed). z .outcome) y;
         tally = g .tally-is ∙ ap (λ (z : Handed). z .tally) y;

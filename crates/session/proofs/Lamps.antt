@@ -11,7 +11,7 @@ use borrow.Author.Tests.{ltb-true, ltb-false}
 use Rattle.causal.proofs.Tests.{test}
 use Rattle.net.specs.Limits.{maxBases, maxLive}
 use Rattle.net.specs.Tests.{pick, table}
-use Rattle.net.specs.Checks.{clear, first}
+use Rattle.net.specs.Checks.{clear, first, verdictNumber}
 use Rattle.net.specs.Journal.{LiveLine, noLine, isLive, lineOf, lineKeys}
 use Rattle.net.specs.declared.Key.{Key}
 use Rattle.net.proofs.Tables.{getD-table}
@@ -22,9 +22,9 @@ use Rattle.firings.proofs.Search.{keys-of-lines}
 use Rattle.words.specs.Sets.{setOf}
 use Rattle.movers.specs.Lamp.{onTop, lamp}
 use Rattle.movers.specs.Tables.{onTopIn}
-use Rattle.lamps.specs.Lamps.{shown, notShown, lampsNumber, litAt, shownIn, litKey}
+use Rattle.lamps.specs.Lamps.{shown, notShown, litAt, shownIn, litKey}
 use Rattle.lamps.specs.declared.Lamps.{Lamps}
-use Rattle.lamps.specs.declared.LampsAnswer.the-variants.{Shown}
+use Rattle.net.specs.declared.Verdict.the-variants.{Accepted}
 use Rattle.sound.proofs.Holds.{few, live-is}
 use Rattle.sound.proofs.Movers.{top-set, sets-low}
 use Rattle.sound.proofs.Refusing.{refused-clear, passed-clear, passed-first}
@@ -48,9 +48,9 @@ module _ (s : List ℕ) (r : Record) where
   unfolding lampsOf
   by-first a n e f = λ i. pick (e i) (shown (r .movers) (heldIn s r .lines)) (notShown (f i))
 
-  pub lamps-refused : (n : ℕ) → n ≡ first (recordChecks s r []) → (n ≡ 0 → ⊥) → (x : Lamps) → x ≡ notShown n → (x ≡ lampsOf s r) × (lampsNumber (x .answer) ≡ first (recordChecks s r []))
+  pub lamps-refused : (n : ℕ) → n ≡ first (recordChecks s r []) → (n ≡ 0 → ⊥) → (x : Lamps) → x ≡ notShown n → (x ≡ lampsOf s r) × (verdictNumber (x .answer) ≡ first (recordChecks s r []))
   unfolding notShown
-  lamps-refused n e h x q = (q ∙ sym (by-first false n (off n e h) (sym e)), ap (λ (y : Lamps). lampsNumber (y .answer)) q ∙ e)
+  lamps-refused n e h x q = (q ∙ sym (by-first false n (off n e h) (sym e)), ap (λ (y : Lamps). verdictNumber (y .answer)) q ∙ e)
 
   -- ---- shown
 
@@ -108,11 +108,11 @@ module _ (s : List ℕ) (r : Record) where
     lamp-asked k = key-is k ∙ sym (ap (λ (b : Bool). b && lamp maxBases (r .movers) ls k) on)
 
     pub lamps-shown : (x : Lamps) → x ≡ shownIn (r .movers) (r .firings .live) (r .firings .keys) (r .firings .moved)
-        → (x ≡ lampsOf s r) × (lampsNumber (x .answer) ≡ first (recordChecks s r []))
+        → (x ≡ lampsOf s r) × (verdictNumber (x .answer) ≡ first (recordChecks s r []))
     lamps-shown x q =
         let same : shownIn (r .movers) (r .firings .live) (r .firings .keys) (r .firings .moved) ≡ shown (r .movers) ls =
-        λ i. record { answer = Shown; count = live-are i; lit = table maxLive (λ p. flag-is p i) } in
-        (q ∙ same ∙ sym (by-first true 0 on none), ap (λ (y : Lamps). lampsNumber (y .answer)) q ∙ sym none)
+        λ i. record { answer = Accepted; count = live-are i; lit = table maxLive (λ p. flag-is p i) } in
+        (q ∙ same ∙ sym (by-first true 0 on none), ap (λ (y : Lamps). verdictNumber (y .answer)) q ∙ sym none)
       where
         none : first (recordChecks s r []) ≡ 0
         none = passed-first s (r .marking) (r .firings) (r .given) (r .movers) S []

@@ -5,8 +5,8 @@ use mathlib.Core.Bool.{Bool, true, false}
 use mathlib.Core.List.{List, []}
 use Prim.Native.Nat.{ℕ}
 use Rattle.net.specs.Tests.{pick}
-use Rattle.net.specs.Checks.{clear, first}
-use Rattle.live_list.specs.List.{listed, notListed, liveNumber}
+use Rattle.net.specs.Checks.{clear, first, verdictNumber}
+use Rattle.live_list.specs.List.{listed, notListed}
 use Rattle.live_list.specs.declared.LiveFirings.{LiveFirings}
 use Rattle.sound.proofs.Refusing.{refused-clear, passed-clear, passed-first}
 use Rattle.session.specs.Records.{Sound}
@@ -19,15 +19,15 @@ module _ (s : List ℕ) (r : Record) where
   unfolding liveFirings
   by-first a n e f = λ i. pick (e i) (listed (r .firings)) (notListed (f i))
 
-  pub list-refused : (n : ℕ) → n ≡ first (recordChecks s r []) → (n ≡ 0 → ⊥) → (x : LiveFirings) → x ≡ notListed n → (x ≡ liveFirings s r) × (liveNumber (x .answer) ≡ first (recordChecks s r []))
+  pub list-refused : (n : ℕ) → n ≡ first (recordChecks s r []) → (n ≡ 0 → ⊥) → (x : LiveFirings) → x ≡ notListed n → (x ≡ liveFirings s r) × (verdictNumber (x .answer) ≡ first (recordChecks s r []))
   unfolding notListed
   list-refused n e h x q = (
     q ∙ sym (by-first false n (refused-clear s (r .marking) (r .firings) (r .given) (r .movers) n e h []) (sym e)),
-    ap (λ (y : LiveFirings). liveNumber (y .answer)) q ∙ e,
+    ap (λ (y : LiveFirings). verdictNumber (y .answer)) q ∙ e,
   )
 
-  pub list-given : Sound s r → (x : LiveFirings) → x ≡ listed (r .firings) → (x ≡ liveFirings s r) × (liveNumber (x .answer) ≡ first (recordChecks s r []))
+  pub list-given : Sound s r → (x : LiveFirings) → x ≡ listed (r .firings) → (x ≡ liveFirings s r) × (verdictNumber (x .answer) ≡ first (recordChecks s r []))
   list-given p x q = (
     q ∙ sym (by-first true (first (recordChecks s r [])) (passed-clear s (r .marking) (r .firings) (r .given) (r .movers) p []) (λ _. first (recordChecks s r []))),
-    ap (λ (y : LiveFirings). liveNumber (y .answer)) q ∙ sym (passed-first s (r .marking) (r .firings) (r .given) (r .movers) p []),
+    ap (λ (y : LiveFirings). verdictNumber (y .answer)) q ∙ sym (passed-first s (r .marking) (r .firings) (r .given) (r .movers) p []),
   )

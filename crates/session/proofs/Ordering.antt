@@ -8,7 +8,7 @@ use native.Mathlib.Omega.{arith}
 use lib.ListN.{length, getD}
 use Rattle.net.specs.Limits.{maxBases}
 use Rattle.net.specs.Tests.{pick}
-use Rattle.net.specs.Checks.{clear, first}
+use Rattle.net.specs.Checks.{clear, first, verdictNumber}
 use Rattle.net.specs.Firing.{inSet}
 use Rattle.net.specs.Journal.{LiveLine, noLine}
 use Rattle.net.proofs.Tables.{length-table, getD-table}
@@ -16,7 +16,7 @@ use Rattle.format.specs.Parts.{basesOf}
 use Rattle.words.proofs.Bits.{wide-at}
 use Rattle.firings.specs.Lines.{firingAt, asLine, linesIn}
 use Rattle.listing.specs.First.{listing}
-use Rattle.listing.specs.Listing.{listingOf, noListing, listingNumber}
+use Rattle.listing.specs.Listing.{listingOf, noListing}
 use Rattle.listing.specs.declared.Listing.{Listing}
 use Rattle.listing.proofs.Alike.{listing-alike}
 use Rattle.sound.proofs.Holds.{few}
@@ -35,11 +35,11 @@ module _ (s : List ℕ) (r : Record) where
   unfolding listingFor
   by-first a n e f = λ i. pick (e i) (listingOf (listing ls)) (noListing (f i))
 
-  pub listing-refused : (n : ℕ) → n ≡ first (recordChecks s r []) → (n ≡ 0 → ⊥) → (x : Listing) → x ≡ noListing n → (x ≡ listingFor s r) × (listingNumber (x .answer) ≡ first (recordChecks s r []))
+  pub listing-refused : (n : ℕ) → n ≡ first (recordChecks s r []) → (n ≡ 0 → ⊥) → (x : Listing) → x ≡ noListing n → (x ≡ listingFor s r) × (verdictNumber (x .answer) ≡ first (recordChecks s r []))
   unfolding noListing
   listing-refused n e h x q = (
     q ∙ sym (by-first false n (refused-clear s (r .marking) (r .firings) (r .given) (r .movers) n e h []) (sym e)),
-    ap (λ (y : Listing). listingNumber (y .answer)) q ∙ e,
+    ap (λ (y : Listing). verdictNumber (y .answer)) q ∙ e,
   )
 
   module _ (S : Sound s r) where
@@ -63,9 +63,9 @@ module _ (s : List ℕ) (r : Record) where
               ∙ ap (λ (l : LiveLine). inSet (l .moved) p) (sym b),
         ))
 
-    pub listing-asked : (x : Listing) → x ≡ listingOf (listing (linesIn maxBases (r .firings))) → (x ≡ listingFor s r) × (listingNumber (x .answer) ≡ first (recordChecks s r []))
+    pub listing-asked : (x : Listing) → x ≡ listingOf (listing (linesIn maxBases (r .firings))) → (x ≡ listingFor s r) × (verdictNumber (x .answer) ≡ first (recordChecks s r []))
     listing-asked x q =
         let none : first (recordChecks s r []) ≡ 0 = passed-first s (r .marking) (r .firings) (r .given) (r .movers) S [] in (
           q ∙ ap listingOf alike ∙ sym (by-first true 0 (passed-clear s (r .marking) (r .firings) (r .given) (r .movers) S []) none),
-          ap (λ (y : Listing). listingNumber (y .answer)) q ∙ sym none,
+          ap (λ (y : Listing). verdictNumber (y .answer)) q ∙ sym none,
         )

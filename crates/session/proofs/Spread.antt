@@ -11,7 +11,7 @@ use borrow.Author.Tests.{ltb-true, ltb-false}
 use Rattle.causal.proofs.Tests.{test}
 use Rattle.net.specs.Limits.{maxBases}
 use Rattle.net.specs.Tests.{pick, table}
-use Rattle.net.specs.Checks.{check, clear, first}
+use Rattle.net.specs.Checks.{check, clear, first, verdictNumber}
 use Rattle.net.specs.Firing.{inSet}
 use Rattle.net.specs.Journal.{LiveLine, isLive, lineKeys}
 use Rattle.net.specs.declared.Key.{Key}
@@ -23,9 +23,9 @@ use Rattle.firings.specs.Lines.{firingAt, asLine}
 use Rattle.firings.specs.Search.{keysIn, indexOf}
 use Rattle.firings.proofs.Search.{keys-of-lines}
 use Rattle.spread.specs.Depends.{spreadOf}
-use Rattle.spread.specs.Spread.{told, notTold, ownChecks, spreadNumber, spreadAt, spreadIn}
+use Rattle.spread.specs.Spread.{told, notTold, ownChecks, spreadAt, spreadIn}
 use Rattle.spread.specs.declared.Spread.{Spread}
-use Rattle.spread.specs.declared.SpreadAnswer.the-variants.{Told}
+use Rattle.net.specs.declared.Verdict.the-variants.{Accepted}
 use Rattle.spread.proofs.Places.{spread-found, spread-alike}
 use Rattle.sound.proofs.Holds.{few, live-is}
 use Rattle.sound.proofs.Movers.{sets-low}
@@ -45,11 +45,11 @@ module _ (s : List ℕ) (r : Record) (k : Key) where
   by-first a n e f = λ i. pick (e i) (told (spreadOf k ls)) (notTold (f i))
 
   abbrev pub Answers : Spread → Type 0
-  Answers x = (x ≡ spreadFor s r k) × (spreadNumber (x .answer) ≡ first (spreadChecks s r k))
+  Answers x = (x ≡ spreadFor s r k) × (verdictNumber (x .answer) ≡ first (spreadChecks s r k))
 
   away : (n : ℕ) → clear (spreadChecks s r k) ≡ false → first (spreadChecks s r k) ≡ n → (x : Spread) → x ≡ notTold n → Answers x
   unfolding notTold
-  away n e f x q = (q ∙ sym (by-first false n e f), ap (λ (y : Spread). spreadNumber (y .answer)) q ∙ sym f)
+  away n e f x q = (q ∙ sym (by-first false n e f), ap (λ (y : Spread). verdictNumber (y .answer)) q ∙ sym f)
 
   -- ---- refused by 1 to 10
 
@@ -106,8 +106,8 @@ module _ (s : List ℕ) (r : Record) (k : Key) where
             let size : live ≡ length ls = live-is s (r .marking) (r .firings) (r .given) (S .passed) in
             let (u, v) = passed-own true (place-found k ls (omega arith) .live) in
             let w : x ≡ told (spreadOf k ls) = e ∙ ap (λ (b : Bool). pick b (told (spreadAt live (r .firings .moved) i)) (notTold 19)) c
-            ∙ ap (λ (l : List Bool). record { answer = Told; parts = l }) (flags-are h) in
-            (w ∙ sym (by-first true 0 u v), ap (λ (y : Spread). spreadNumber (y .answer)) w ∙ sym v)
+            ∙ ap (λ (l : List Bool). record { answer = Accepted; parts = l }) (flags-are h) in
+            (w ∙ sym (by-first true 0 u v), ap (λ (y : Spread). verdictNumber (y .answer)) w ∙ sym v)
 
         no : ltb i live ≡ false → Answers x
         no c =

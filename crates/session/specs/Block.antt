@@ -6,7 +6,7 @@ use Prim.Native.Nat.{ℕ}
 use lib.ListN.{length}
 use lib.Seq.{sets}
 use Rattle.net.specs.Tests.{pick}
-use Rattle.net.specs.Checks.{Check, check, clear, first}
+use Rattle.net.specs.Checks.{Check, check, clear, first, verdictNumber}
 use Rattle.tally.specs.declared.Tally.{Tally}
 use Rattle.command_list.specs.Commands.{howMany}
 use Rattle.command_list.specs.Block.{unfitFor}
@@ -14,19 +14,13 @@ use Rattle.session.specs.Commands.{recordChecks}
 use Rattle.session.specs.Runs.{Session}
 use Rattle.session.specs.Lists.{wordsOf, valuesOf, ranOf}
 use Rattle.session.specs.declared.Record.{Record}
-use Rattle.session.specs.declared.block.BlockAnswer.{BlockAnswer}
-use Rattle.session.specs.declared.block.BlockAnswer.the-variants.{Ran, NotRun}
+use Rattle.net.specs.declared.Verdict.the-variants.{Accepted, Refused}
 use Rattle.session.specs.declared.block.BlockOutcome.{BlockOutcome}
 use Rattle.session.specs.declared.block.BlockCounted.{BlockCounted}
 
 -- 1 to 10, then 26; for lists of so many entries
 abbrev pub blockChecks : List ℕ → Record → List ℕ → ℕ → ℕ → List Check
 blockChecks s r b words values = recordChecks s r (check 26 (unfitFor b words values) ∷ [])
-
--- The papers' number of each answer; 0 for a block that is run.
-abbrev pub blockNumber : BlockAnswer → ℕ
-blockNumber Ran = 0
-blockNumber (NotRun n) = n
 
 -- What a block leaves: the outcome, the tally, and the two lists of answers.
 pub record Handed : Type 0 where
@@ -38,7 +32,7 @@ pub record Handed : Type 0 where
 -- It is run: the session's record and tally, the answers as words and values from entry 0 on; what lies after them stays.
 abbrev pub ranBlock : ℕ → List ℕ → List ℕ → Session → Handed
 ranBlock n words values y = record {
-  outcome = record { answer = Ran; count = n; session = y .session };
+  outcome = record { answer = Accepted; count = n; session = y .session };
   tally = y .tally;
   words = sets words 0 (wordsOf y);
   values = sets values 0 (valuesOf y);
@@ -46,7 +40,7 @@ ranBlock n words values y = record {
 
 -- It is turned away by number n: no command runs, and nothing changes.
 abbrev pub turnedAway : Record → ℕ → Tally → BlockCounted
-turnedAway r n t = record { outcome = record { answer = NotRun n; count = 0; session = r }; tally = t }
+turnedAway r n t = record { outcome = record { answer = Refused n; count = 0; session = r }; tally = t }
 
 abbrev pub notRun : BlockCounted → List ℕ → List ℕ → Handed
 notRun y words values = record { outcome = y .outcome; tally = y .tally; words = words; values = values }
@@ -64,4 +58,4 @@ pub record Blocked (s : List ℕ) (r : Record) (t : Tally) (b words₀ values₀
   pub tally : u ≡ blockOf s r t b words₀ values₀ .tally
   pub words-are : words ≡ blockOf s r t b words₀ values₀ .words
   pub values-are : values ≡ blockOf s r t b words₀ values₀ .values
-  pub number : blockNumber (o .answer) ≡ first (blockChecks s r b (length words₀) (length values₀))
+  pub number : verdictNumber (o .answer) ≡ first (blockChecks s r b (length words₀) (length values₀))

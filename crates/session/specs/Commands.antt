@@ -18,8 +18,7 @@ use Rattle.session.specs.declared.Record.{Record}
 use Rattle.commands.specs.Answers.{answerOf, keyOf, wordOf, answerNumber}
 use Rattle.commands.specs.declared.Answer.the-variants.{Refused}
 use Rattle.session.specs.declared.Outcome.{Outcome}
-use Rattle.session.specs.declared.StartAnswer.{StartAnswer}
-use Rattle.session.specs.declared.StartAnswer.the-variants.{Started, NotStarted}
+use Rattle.net.specs.declared.Verdict.the-variants as Verdict
 use Rattle.session.specs.declared.Start.{Start}
 
 -- ---- Starting a session
@@ -34,12 +33,7 @@ zeroRecord = recordOf (record { marking = record { places = []; bonds = [] }; li
 
 -- The fresh record, or a record of zeros with the sheet's refusal.
 unfoldable pub startOf : List ℕ → Start
-startOf s = pick (clear (sheetChecks s)) (record { answer = Started; session = freshOf s }) (record { answer = NotStarted (first (sheetChecks s)); session = zeroRecord })
-
--- Document 01's number of each answer; 0 for a session that is started.
-abbrev pub startNumber : StartAnswer → ℕ
-startNumber Started = 0
-startNumber (NotStarted n) = n
+startOf s = pick (clear (sheetChecks s)) (record { answer = Verdict.Accepted; session = freshOf s }) (record { answer = Verdict.Refused (first (sheetChecks s)); session = zeroRecord })
 
 -- ---- One command
 

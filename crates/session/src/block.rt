@@ -6,17 +6,12 @@ use crate::Record;
 use crate::run::run;
 use command_list::block_refusal;
 use command_list::how_many;
+use net::Verdict;
 use tally::Tally;
-
-// The answer to a block; NotRun has the number of the papers' list.
-pub enum BlockAnswer {
-    Ran,
-    NotRun(u8),
-}
 
 // The answer, how many answers the lists have (0 where the block is not run), and the record after the block.
 pub struct BlockOutcome {
-    pub answer: BlockAnswer,
+    pub answer: Verdict,
     pub count: usize,
     pub session: Record,
 }
@@ -34,7 +29,7 @@ impl Record {
     {
         BlockCounted {
             outcome: BlockOutcome {
-                answer: BlockAnswer::NotRun(n),
+                answer: Verdict::Refused(n),
                 count: 0,
                 session: self,
             },
@@ -65,7 +60,7 @@ impl Record {
         let counts = ran.tally;
         BlockCounted {
             outcome: BlockOutcome {
-                answer: BlockAnswer::Ran,
+                answer: Verdict::Accepted,
                 count: how_many(block),
                 session: next,
             },

@@ -1,8 +1,7 @@
 // Whether a live firing can come off (document 02, T-06), asked of a record: sheet and record are checked first.
 ghost use mathlib.Core.Path.{_≡_};
 ghost use mathlib.Core.List.{[]};
-ghost use Rattle.net.specs.Checks.{first};
-ghost use Rattle.lamps.specs.Lamps.{lampsNumber};
+ghost use Rattle.net.specs.Checks.{first, verdictNumber};
 ghost use Rattle.session.specs.Commands.{recordChecks};
 ghost use Rattle.session.specs.Lamps.{canUndo, lampsOf};
 use crate::Record;
@@ -30,7 +29,7 @@ impl Record {
     // The lamps of all live firings in their order, with their number: 1 to 10 first; none is lit where the call is refused.
     pub fn lamps(self, sheet: &[u8]) -> Lamps
         ensures { λ r. ⌜ r ≡ lampsOf (now (sheet .entry)) self ⌝ }
-        ensures { λ r. ⌜ lampsNumber (r .answer) ≡ first (recordChecks (now (sheet .entry)) self []) ⌝ }
+        ensures { λ r. ⌜ verdictNumber (r .answer) ≡ first (recordChecks (now (sheet .entry)) self []) ⌝ }
     {
         let refusal = self.refusal_on(sheet);
         if refusal != 0 {

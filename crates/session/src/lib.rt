@@ -20,6 +20,7 @@ use firings::Firings;
 use marking::Marking;
 use net::Key;
 use net::MAX_BASES;
+use net::Verdict;
 use runs::Held;
 use runs::perform_on;
 use sound::record_refusal;
@@ -41,14 +42,8 @@ pub struct Outcome {
     pub session: Record,
 }
 
-// The answer to starting a session; NotStarted has the sheet's number.
-pub enum StartAnswer {
-    Started,
-    NotStarted(u8),
-}
-
 pub struct Start {
-    pub answer: StartAnswer,
+    pub answer: Verdict,
     pub session: Record,
 }
 

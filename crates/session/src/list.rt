@@ -1,8 +1,7 @@
 // The listing of the live firings (document 02, T-09), asked of a record: sheet and record are checked first.
 ghost use mathlib.Core.Path.{_≡_};
 ghost use mathlib.Core.List.{[]};
-ghost use Rattle.net.specs.Checks.{first};
-ghost use Rattle.listing.specs.Listing.{listingNumber};
+ghost use Rattle.net.specs.Checks.{first, verdictNumber};
 ghost use Rattle.session.specs.Commands.{recordChecks};
 ghost use Rattle.session.specs.Listing.{listingFor};
 use crate::Record;
@@ -15,7 +14,7 @@ impl Record {
     // when compared number by number. 1 to 10; no step where the call is refused.
     pub fn listing(self, sheet: &[u8]) -> Listing
         ensures { λ r. ⌜ r ≡ listingFor (now (sheet .entry)) self ⌝ }
-        ensures { λ r. ⌜ listingNumber (r .answer) ≡ first (recordChecks (now (sheet .entry)) self []) ⌝ }
+        ensures { λ r. ⌜ verdictNumber (r .answer) ≡ first (recordChecks (now (sheet .entry)) self []) ⌝ }
     {
         let refusal = self.refusal_on(sheet);
         if refusal != 0 {

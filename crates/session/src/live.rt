@@ -1,8 +1,7 @@
 // A record's live firings as a list (document 02, T-01): what a page of live firings is asked of.
 ghost use mathlib.Core.Path.{_≡_};
 ghost use mathlib.Core.List.{[]};
-ghost use Rattle.net.specs.Checks.{first};
-ghost use Rattle.live_list.specs.List.{liveNumber};
+ghost use Rattle.net.specs.Checks.{first, verdictNumber};
 ghost use Rattle.session.specs.Commands.{recordChecks};
 ghost use Rattle.session.specs.Live.{liveFirings};
 use crate::Record;
@@ -14,7 +13,7 @@ impl Record {
     // The live firings in their order, with their number: 1 to 10 first; no firing and zeros where the call is refused.
     pub fn live_firings(self, sheet: &[u8]) -> LiveFirings
         ensures { λ r. ⌜ r ≡ liveFirings (now (sheet .entry)) self ⌝ }
-        ensures { λ r. ⌜ liveNumber (r .answer) ≡ first (recordChecks (now (sheet .entry)) self []) ⌝ }
+        ensures { λ r. ⌜ verdictNumber (r .answer) ≡ first (recordChecks (now (sheet .entry)) self []) ⌝ }
     {
         let refusal = self.refusal_on(sheet);
         if refusal != 0 {

@@ -1,7 +1,6 @@
 // How far one firing spreads (document 02, T-08), asked of a record: sheet and record are checked first.
 ghost use mathlib.Core.Path.{_≡_};
-ghost use Rattle.net.specs.Checks.{first};
-ghost use Rattle.spread.specs.Spread.{spreadNumber};
+ghost use Rattle.net.specs.Checks.{first, verdictNumber};
 ghost use Rattle.session.specs.Spread.{spreadChecks, spreadFor};
 use crate::Record;
 use net::Key;
@@ -14,7 +13,7 @@ impl Record {
     // part. 1 to 10, then 19 where the key is not live; no part where the call is refused.
     pub fn spread(self, sheet: &[u8], key: Key) -> Spread
         ensures { λ r. ⌜ r ≡ spreadFor (now (sheet .entry)) self key ⌝ }
-        ensures { λ r. ⌜ spreadNumber (r .answer) ≡ first (spreadChecks (now (sheet .entry)) self key) ⌝ }
+        ensures { λ r. ⌜ verdictNumber (r .answer) ≡ first (spreadChecks (now (sheet .entry)) self key) ⌝ }
     {
         let refusal = self.refusal_on(sheet);
         if refusal != 0 {

@@ -20,10 +20,10 @@ use generated::commands::command_of;
 use generated::counts::differing;
 use generated::counts::more;
 use generated::rows::part;
+use net::Verdict;
 use oracle::sets::get;
 use oracle::sets::put;
 use session::Record;
-use session::block::BlockAnswer;
 use session::block::BlockCounted;
 use session::block::block_with;
 use session_start::start;
@@ -122,10 +122,10 @@ fn same_answers(words: &[u8; MOST], values: &[u16; MOST], answers: &[u64], n: us
 }
 
 // Whether the block was run, with so many answers.
-fn is_run(a: BlockAnswer, count: usize, n: usize) -> bool {
+fn is_run(a: Verdict, count: usize, n: usize) -> bool {
     match a {
-        BlockAnswer::Ran => count == n,
-        BlockAnswer::NotRun(k) => false,
+        Verdict::Accepted => count == n,
+        Verdict::Refused(k) => false,
     }
 }
 

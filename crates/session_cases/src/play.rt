@@ -17,9 +17,9 @@ use generated::commands::made;
 use generated::counts::differing;
 use generated::counts::more;
 use net::Key;
+use net::Verdict;
 use oracle::sets::get;
 use session::Record;
-use session::StartAnswer;
 use session_start::start;
 
 // After a command on both: compared and counted.
@@ -191,7 +191,7 @@ fn play(
 pub fn session(c: &mut [u64], sheet: &[u8], w: &[u64], letters: &[u8], seed: u64) {
     let first = start(sheet);
     let a = first.answer;
-    let StartAnswer::Started = a else {
+    let Verdict::Accepted = a else {
         more(c, SHEETS_REFUSED, 1, true);
         return;
     };

@@ -20,7 +20,7 @@ use Rattle.session.specs.Commands.{freshOf, zeroRecord, startOf}
 use Rattle.session.specs.declared.Record.{Record}
 use Rattle.session.specs.declared.Start.{Start}
 use Rattle.session.proofs.Begins.{fresh-sound}
-use Rattle.session.specs.declared.StartAnswer.the-variants.{Started, NotStarted}
+use Rattle.net.specs.declared.Verdict.the-variants.{Accepted, Refused}
 use Rattle.sound.proofs.Refusing.{sheet-clear, sheet-held}
 
 -- zeros in every array
@@ -30,22 +30,22 @@ unfolding zeroRecord recordOf
 zeros f e = λ i. record { marking = record { places = replicate maxBases 0; count = 0; lo = replicate maxBonds 0; hi = replicate maxBonds 0 }; firings = e i; movers = replicate maxBases 0; given = key 0 }
 
 module _ (s : List ℕ) (n : ℕ) (e : n ≡ first (sheetChecks s)) where
-  pub refused : (r : Record) → (n ≡ 0 → ⊥) → r ≡ zeroRecord → record { answer = NotStarted n; session = r } ≡ startOf s
+  pub refused : (r : Record) → (n ≡ 0 → ⊥) → r ≡ zeroRecord → record { answer = Refused n; session = r } ≡ startOf s
   unfolding startOf
   refused r h z =
       let q : clear (sheetChecks s) ≡ false = sheet-held s n e h in
-      (λ i. record { answer = NotStarted (e i); session = z i }) ∙ sym (ap (λ (b : Bool). pick {X = Start} b (record { answer = Started; session = freshOf s }) (record { answer = NotStarted (first (sheetChecks s)); session = zeroRecord })) q)
+      (λ i. record { answer = Refused (e i); session = z i }) ∙ sym (ap (λ (b : Bool). pick {X = Start} b (record { answer = Accepted; session = freshOf s }) (record { answer = Refused (first (sheetChecks s)); session = zeroRecord })) q)
 
-  pub started : (m : Marking) (f : Firings) → n ≡ 0 → m ≡ laid (startMarking s) → f ≡ firingsOf [] → record { answer = Started; session = record { marking = m; firings = f; movers = replicate maxBases 0; given = key 0 } } ≡ startOf s
+  pub started : (m : Marking) (f : Firings) → n ≡ 0 → m ≡ laid (startMarking s) → f ≡ firingsOf [] → record { answer = Accepted; session = record { marking = m; firings = f; movers = replicate maxBases 0; given = key 0 } } ≡ startOf s
   unfolding startOf freshOf recordOf netOf
   started m f h em ef =
-      (λ i. record { answer = Started; session = record { marking = em i; firings = ef i; movers = replicate maxBases 0; given = key 0 } })
-      ∙ sym (ap (λ (b : Bool). pick {X = Start} b (record { answer = Started; session = freshOf s }) (record { answer = NotStarted (first (sheetChecks s)); session = zeroRecord })) (sheet-clear s n e h))
+      (λ i. record { answer = Accepted; session = record { marking = em i; firings = ef i; movers = replicate maxBases 0; given = key 0 } })
+      ∙ sym (ap (λ (b : Bool). pick {X = Start} b (record { answer = Accepted; session = freshOf s }) (record { answer = Refused (first (sheetChecks s)); session = zeroRecord })) (sheet-clear s n e h))
 
 -- a session that is started has a sound record
 pub started-sound : (s : List ℕ) (x : Start) → x ≡ startOf s → clear (sheetChecks s) ≡ true → Sound s (x .session)
 unfolding startOf
 started-sound s x e accepted =
     let fresh : startOf s .session ≡ freshOf s =
-    ap (λ (b : Bool). pick {X = Start} b (record { answer = Started; session = freshOf s }) (record { answer = NotStarted (first (sheetChecks s)); session = zeroRecord }) .session) accepted in
+    ap (λ (b : Bool). pick {X = Start} b (record { answer = Accepted; session = freshOf s }) (record { answer = Refused (first (sheetChecks s)); session = zeroRecord }) .session) accepted in
     subst (Sound s) (sym (ap (λ (y : Start). y .session) e ∙ fresh)) (fresh-sound s accepted)

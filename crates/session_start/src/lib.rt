@@ -2,10 +2,10 @@
 // zeros with the sheet's refusal. Any bytes may be handed in.
 ghost use mathlib.Core.Path.{_≡_};
 ghost use mathlib.Core.List.{[]};
-ghost use Rattle.net.specs.Checks.{first};
+ghost use Rattle.net.specs.Checks.{first, verdictNumber};
 ghost use Rattle.sheet.specs.Checks.{sheetChecks};
 ghost use Rattle.firings.specs.Lines.{firingsOf};
-ghost use Rattle.session.specs.Commands.{zeroRecord, startOf, startNumber};
+ghost use Rattle.session.specs.Commands.{zeroRecord, startOf};
 use firings::Firings;
 use fresh_marking::start_marking;
 use marking::Marking;
@@ -13,11 +13,10 @@ use net::Key;
 use net::MAX_BASES;
 use net::MAX_BONDS;
 use net::MAX_LIVE;
+use net::Verdict;
 use session::Record;
 use session::Start;
-use session::StartAnswer;
 use sheet::check_sheet;
-use sheet::sheet_number;
 
 // No live firing.
 fn no_firings() -> Firings
@@ -52,19 +51,19 @@ fn zero_record() -> Record
 // The fresh record of an accepted sheet; of any other its refusal, and a record of zeros.
 pub fn start(sheet: &[u8]) -> Start
     ensures { λ r. ⌜ r ≡ startOf (now (sheet .entry)) ⌝ }
-    ensures { λ r. ⌜ startNumber (r .answer) ≡ first (sheetChecks (now (sheet .entry))) ⌝ }
+    ensures { λ r. ⌜ verdictNumber (r .answer) ≡ first (sheetChecks (now (sheet .entry))) ⌝ }
 {
     let checked = check_sheet(sheet);
-    let refusal = sheet_number(checked);
+    let refusal = checked.number();
     if refusal != 0 {
         return Start {
-            answer: StartAnswer::NotStarted(refusal),
+            answer: Verdict::Refused(refusal),
             session: zero_record(),
         };
     }
     let m = start_marking(sheet);
     Start {
-        answer: StartAnswer::Started,
+        answer: Verdict::Accepted,
         session: Record {
             marking: m,
             firings: no_firings(),

@@ -26,7 +26,7 @@ use Rattle.format.specs.NetOf.{startMarking, netOf}
 use Rattle.sheet_head.specs.Conditions.{wrongSize, wrongCounts, partsBegin, follow, wrongPairs, wrongStartPlaces, wrongStartBonds}
 use Rattle.sheet.specs.Checks.{headChecks, transitionChecks, checksFrom, sheetChecks, checked}
 use Rattle.sheet.specs.Promises.{BondWithin, arcsAt, GoodArcs, Promised}
-use Rattle.sheet.specs.declared.SheetAnswer.the-variants.{Accepted, Refused}
+use Rattle.net.specs.declared.Verdict.the-variants.{Accepted, Refused}
 use Rattle.sheet.proofs.Written.{written-bytes}
 use Rattle.sheet.proofs.Arcs.{within, all-table, arcs-rule, good-arcs}
 

@@ -8,15 +8,15 @@ use native.Mathlib.Omega.{arith}
 use lib.Dec.{eqb, ltb}
 use borrow.Author.Tests.{ltb-true, eq-eqb, ne-eqb}
 use Rattle.net.specs.Tests.{pick, all}
-use Rattle.net.specs.Checks.{Check, clear, first, numbers}
+use Rattle.net.specs.Checks.{Check, clear, first, numbers, verdictNumber}
 use Rattle.net.specs.Journal.{transition}
 use Rattle.net.specs.declared.Transition.{Transition}
 use Rattle.net.proofs.Tests.{and-l, and-r}
 use Rattle.format.specs.Parts.{placesOf, basesOf, transitionsOf, transitionBytes}
 use Rattle.sheet_arcs.specs.Conditions.{wrongWidth, wrongEntries}
 use Rattle.sheet_bonds.specs.Conditions.{wrongBonds}
-use Rattle.sheet.specs.Checks.{headChecks, transitionChecks, checksFrom, sheetChecks, checked, sheetNumber}
-use Rattle.sheet.specs.declared.SheetAnswer.the-variants.{Accepted, Refused}
+use Rattle.sheet.specs.Checks.{headChecks, transitionChecks, checksFrom, sheetChecks, checked}
+use Rattle.net.specs.declared.Verdict.the-variants.{Accepted, Refused}
 
 -- ---- any list of checks
 
@@ -106,11 +106,11 @@ module _ (s : List ℕ) where
   none-first = clear-first (headChecks s ++ checksFrom s 0 (transitionsOf s)) (from-numbered s 0 (transitionsOf s))
 
   -- the answer's number is that of the first check that holds, 0 where none does
-  pub answer-number : sheetNumber (checked s) ≡ first (sheetChecks s)
+  pub answer-number : verdictNumber (checked s) ≡ first (sheetChecks s)
   unfolding checked
   answer-number = rw none-first (go (first (sheetChecks s)))
     where
-      go : (n : ℕ) → sheetNumber (pick (eqb n 0) Accepted (Refused n)) ≡ n
+      go : (n : ℕ) → verdictNumber (pick (eqb n 0) Accepted (Refused n)) ≡ n
       go zero = refl
       go (suc n) = rw (ne-eqb (suc n) 0 (λ q. omega arith))
 

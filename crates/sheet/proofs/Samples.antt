@@ -11,7 +11,7 @@ use Rattle.sheet_bonds.specs.Conditions.{wrongBonds}
 use Rattle.sheet.specs.Checks.{sheetChecks, checked}
 use Rattle.sheet.specs.Promises.{Promised}
 use Rattle.sheet.specs.Samples.{sheetA, sheetB}
-use Rattle.sheet.specs.declared.SheetAnswer.the-variants.{Accepted, Refused}
+use Rattle.net.specs.declared.Verdict.the-variants.{Accepted, Refused}
 use Rattle.sheet.proofs.Accepted.{accepted-promised}
 
 pub sheetA-accepted : checked sheetA ≡ Accepted

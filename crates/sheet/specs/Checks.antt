@@ -10,8 +10,8 @@ use Rattle.format.specs.Parts.{placesOf, basesOf, transitionsOf, transitionByte
 use Rattle.sheet_head.specs.Conditions.{wrongSize, wrongVersion, wrongCounts, wrongPairs, wrongStartPlaces, wrongStartBonds}
 use Rattle.sheet_arcs.specs.Conditions.{wrongWidth, wrongEntries}
 use Rattle.sheet_bonds.specs.Conditions.{wrongBonds}
-use Rattle.sheet.specs.declared.SheetAnswer.{SheetAnswer}
-use Rattle.sheet.specs.declared.SheetAnswer.the-variants.{Accepted, Refused}
+use Rattle.net.specs.declared.Verdict.{Verdict}
+use Rattle.net.specs.declared.Verdict.the-variants.{Accepted, Refused}
 
 -- what is checked before any transition
 abbrev pub headChecks : List ℕ → List Check
@@ -41,10 +41,5 @@ unfoldable pub sheetChecks : List ℕ → List Check
 sheetChecks s = headChecks s ++ checksFrom s 0 (transitionsOf s)
 
 -- The answer to a sheet: accepted where no check holds, else refused with the number of the first that does.
-unfoldable pub checked : List ℕ → SheetAnswer
+unfoldable pub checked : List ℕ → Verdict
 checked s = pick (clear (sheetChecks s)) Accepted (Refused (first (sheetChecks s)))
-
--- The number that document 01 has for an answer; 0 for an accepted sheet.
-abbrev pub sheetNumber : SheetAnswer → ℕ
-sheetNumber Accepted = 0
-sheetNumber (Refused n) = n

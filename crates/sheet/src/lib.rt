@@ -2,15 +2,16 @@
 // The conditions themselves are the crates sheet_head's (1 to 6), sheet_arcs's (7, 8) and sheet_bonds's (9).
 ghost use mathlib.Core.Path.{_≡_};
 ghost use Prim.Native.Nat.{_+_, _<_};
-ghost use Rattle.net.specs.Checks.{first};
+ghost use Rattle.net.specs.Checks.{first, verdictNumber};
 ghost use Rattle.format.specs.Parts.{transitionsOf};
-ghost use Rattle.sheet.specs.Checks.{headChecks, transitionChecks, checksFrom, sheetChecks, checked, sheetNumber};
-ghost use Rattle.sheet.specs.declared.SheetAnswer.{SheetAnswer};
+ghost use Rattle.sheet.specs.Checks.{headChecks, transitionChecks, checksFrom, sheetChecks, checked};
+ghost use Rattle.net.specs.declared.Verdict.{Verdict};
 use format::base_count;
 use format::place_count;
 use format::transition_bytes;
 use format::transition_count;
 use net::Transition;
+use net::Verdict;
 use sheet_arcs::wrong_entries;
 use sheet_arcs::wrong_width;
 use sheet_bonds::wrong_bonds;
@@ -20,12 +21,6 @@ use sheet_head::wrong_size;
 use sheet_head::wrong_start_bonds;
 use sheet_head::wrong_start_places;
 use sheet_head::wrong_version;
-
-// The answer to a sheet; Refused has the number of document 01's list.
-pub enum SheetAnswer {
-    Accepted,
-    Refused(u8),
-}
 
 // The first of 1 to 6 that holds; 0 where none does.
 fn head_refusal(sheet: &[u8]) -> u8
@@ -101,24 +96,14 @@ fn sheet_refusal(sheet: &[u8]) -> u8
 }
 
 // Accepted, or refused with the first number of document 01's list that holds. Any bytes may be handed in.
-pub fn check_sheet(sheet: &[u8]) -> SheetAnswer
+pub fn check_sheet(sheet: &[u8]) -> Verdict
     ensures { λ r. ⌜ r ≡ checked (now (sheet .entry)) ⌝ }
-    ensures { λ r. ⌜ sheetNumber r ≡ first (sheetChecks (now (sheet .entry))) ⌝ }
+    ensures { λ r. ⌜ verdictNumber r ≡ first (sheetChecks (now (sheet .entry))) ⌝ }
 {
     let refusal = sheet_refusal(sheet);
     if refusal == 0 {
-        SheetAnswer::Accepted
+        Verdict::Accepted
     } else {
-        SheetAnswer::Refused(refusal)
-    }
-}
-
-// The number that document 01 has for an answer; 0 for an accepted sheet.
-pub fn sheet_number(answer: SheetAnswer) -> u8
-    ensures { λ r. ⌜ r ≡ sheetNumber answer ⌝ }
-{
-    match answer {
-        SheetAnswer::Accepted => 0,
-        SheetAnswer::Refused(n) => n,
+        Verdict::Refused(refusal)
     }
 }

@@ -9,8 +9,8 @@ use lib.ListN.{length, getD, take, drop}
 use lib.Seq.{sets, take-append-seam}
 use Rattle.text.proofs.Writes.{sets-front}
 use Rattle.sheet.specs.Checks.{checked}
-use Rattle.sheet.specs.declared.SheetAnswer.{SheetAnswer}
-use Rattle.sheet.specs.declared.SheetAnswer.the-variants.{Accepted, Refused}
+use Rattle.net.specs.declared.Verdict.{Verdict}
+use Rattle.net.specs.declared.Verdict.the-variants.{Accepted, Refused}
 use Rattle.encode.proofs.Bytes.{bytes-known}
 use Rattle.sheet_text.specs.Reading.{readText}
 use Rattle.sheet_text.specs.Claims.{sheetText}
@@ -33,11 +33,11 @@ abbrev number : Printed → ℕ
 number (printed.Text n) = 0
 number (printed.Refused n) = n
 
-text-told : (a : SheetAnswer) (t : List ℕ) (n : ℕ) → printed.Text n ≡ printedBy a t → (a ≡ Accepted) × (n ≡ length t)
+text-told : (a : Verdict) (t : List ℕ) (n : ℕ) → printed.Text n ≡ printedBy a t → (a ≡ Accepted) × (n ≡ length t)
 text-told Accepted t n e = (refl, ap endOf e)
 text-told (Refused m) t n e = absurd (true≢false (ap isText e))
 
-refused-told : (a : SheetAnswer) (t : List ℕ) (n : ℕ) → printed.Refused n ≡ printedBy a t → a ≡ Refused n
+refused-told : (a : Verdict) (t : List ℕ) (n : ℕ) → printed.Refused n ≡ printedBy a t → a ≡ Refused n
 refused-told Accepted t n e = absurd (true≢false (sym (ap isText e)))
 refused-told (Refused m) t n e = ap Refused (sym (ap number e))
 

@@ -17,7 +17,7 @@ use Rattle.format.specs.Parts.{transitionsOf, partOf, lengthOf, offsetOf, trans
 use Rattle.format.specs.Arcs.{entryCount, nthEntry, arcsIn, inAt, inCount, nthInBond, outAt, outCount, nthOutBond}
 use Rattle.format.specs.NetOf.{netOf}
 use Rattle.sheet.specs.Checks.{checked}
-use Rattle.sheet.specs.declared.SheetAnswer.the-variants.{Accepted}
+use Rattle.net.specs.declared.Verdict.the-variants.{Accepted}
 use Rattle.sheet.proofs.Arcs.{all-table}
 use Rattle.sheet.proofs.Accepted.{accepted-promised}
 use Rattle.encode.specs.Encoding.{bytes, bytesOf}

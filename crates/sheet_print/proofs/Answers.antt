@@ -10,7 +10,7 @@ use Rattle.text.specs.Ascii.{ascii}
 use Rattle.text.specs.Writes.{Wrote, Filled}
 use Rattle.format.specs.Parts.{placesOf}
 use Rattle.sheet.specs.Checks.{checked}
-use Rattle.sheet.specs.declared.SheetAnswer.the-variants.{Accepted, Refused}
+use Rattle.net.specs.declared.Verdict.the-variants.{Accepted, Refused}
 use Rattle.sheet.proofs.Accepted.{accepted-promised}
 use Rattle.sheet_text.specs.declared.Line.the-variants.{Places}
 use Rattle.sheet_text.specs.Claims.{sheetText}

@@ -20,7 +20,7 @@ use Rattle.format.specs.Arcs.{arcsWidth}
 use Rattle.format.specs.NetOf.{startBondCount}
 use Rattle.sheet_head.specs.Conditions.{follow, partsBegin}
 use Rattle.sheet.specs.Checks.{sheetChecks, checked}
-use Rattle.sheet.specs.declared.SheetAnswer.the-variants.{Accepted}
+use Rattle.net.specs.declared.Verdict.the-variants.{Accepted}
 use Rattle.sheet.proofs.Accepted.{clear-of, accepted-promised}
 use Rattle.encode.proofs.Whole.{follow-next, follow-le, paired, width}
 use Rattle.sheet_print.specs.Pieces.{partsText, coupledText, stepAt, stepsText}

@@ -4,19 +4,19 @@ use Prim.Native.Nat.{ℕ}
 use mathlib.Core.List.{List, []}
 use lib.ListN.{length}
 use Rattle.sheet.specs.Checks.{checked}
-use Rattle.sheet.specs.declared.SheetAnswer.{SheetAnswer}
-use Rattle.sheet.specs.declared.SheetAnswer.the-variants.{Accepted, Refused}
+use Rattle.net.specs.declared.Verdict.{Verdict}
+use Rattle.net.specs.declared.Verdict.the-variants.{Accepted, Refused}
 use Rattle.sheet_text.specs.Claims.{sheetText}
 use Rattle.sheet_print.specs.declared.Printed.{Printed}
 use Rattle.sheet_print.specs.declared.Printed.the-variants as printed
 
 -- by the answer to the sheet: how long its text t is, or the number of document 01's list
-abbrev pub printedBy : SheetAnswer → List ℕ → Printed
+abbrev pub printedBy : Verdict → List ℕ → Printed
 printedBy Accepted t = printed.Text (length t)
 printedBy (Refused n) t = printed.Refused n
 
 -- by the answer to the sheet: its text t, or none
-abbrev pub textBy : SheetAnswer → List ℕ → List ℕ
+abbrev pub textBy : Verdict → List ℕ → List ℕ
 textBy Accepted t = t
 textBy (Refused n) t = []
 

@@ -9,7 +9,7 @@ ghost use Rattle.format.specs.Parts.{basesOf};
 ghost use Rattle.format.specs.Arcs.{entryCount, inCount, outCount};
 ghost use Rattle.format.specs.NetOf.{startBondCount};
 ghost use Rattle.sheet.specs.Checks.{checked};
-ghost use Rattle.sheet.specs.declared.SheetAnswer.the-variants.{Accepted};
+ghost use Rattle.net.specs.declared.Verdict.the-variants.{Accepted};
 ghost use Rattle.sheet_text.specs.Claims.{sheetText};
 ghost use Rattle.sheet_text.specs.declared.Line.the-variants.{Move};
 ghost use Rattle.sheet_print.specs.Pieces.{lineBytes, named, one, two, bondRow, partAt, coupledAt, moveAt, beforeAt, afterAt, partsText, coupledText, movesText, beforeText, afterText, arcsText, stepAt, stepsText};
@@ -34,7 +34,7 @@ use net::Bond;
 use net::Entry;
 use net::MAX_SHEET;
 use net::Transition;
-use sheet::SheetAnswer;
+use net::Verdict;
 use sheet::check_sheet;
 use text::put_digits;
 use text::put_word;
@@ -281,7 +281,7 @@ pub fn print_sheet(sheet: &[u8], buf: &mut [u8]) -> Printed
 {
     let answer = check_sheet(sheet);
     match answer {
-        SheetAnswer::Accepted => Printed::Text(put_net(sheet, buf)),
-        SheetAnswer::Refused(n) => Printed::Refused(n),
+        Verdict::Accepted => Printed::Text(put_net(sheet, buf)),
+        Verdict::Refused(n) => Printed::Refused(n),
     }
 }

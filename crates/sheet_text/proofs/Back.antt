@@ -22,7 +22,7 @@ use Rattle.format.specs.NetOf.{startMarking, netOf}
 use Rattle.net.specs.Journal.{transition}
 use Rattle.sheet.specs.Checks.{sheetChecks, checked}
 use Rattle.sheet.specs.Promises.{BondWithin, GoodArcs, Promised, arcsAt}
-use Rattle.sheet.specs.declared.SheetAnswer.the-variants.{Accepted}
+use Rattle.net.specs.declared.Verdict.the-variants.{Accepted}
 use Rattle.sheet.proofs.Accepted.{accepted-promised, clear-of}
 use Rattle.lexing.specs.Tokens.{Token}
 use Rattle.lexing.proofs.Back.{printed-back}

@@ -39,7 +39,6 @@ use net::MAX_BONDS;
 use net::MAX_LIVE;
 use net::Place;
 use sheet::check_sheet;
-use sheet::sheet_number;
 use steps::enable_refusal;
 use steps::fire_in;
 
@@ -242,7 +241,7 @@ pub fn record_refusal<'a>(
         (lying live (now (transitions .entry)) (now (keys .entry)) (now (moved .entry))) given (now (movers .entry))) ⌝ }
 {
     let checked = check_sheet(sheet);
-    let refusal = sheet_number(checked);
+    let refusal = checked.number();
     if refusal != 0 {
         return refusal;
     }

@@ -14,13 +14,12 @@ use Rattle.net.specs.declared.Key.{Key}
 use Rattle.words.specs.Sets.{setOf}
 use Rattle.firings.specs.Search.{keysIn, indexOf}
 use Rattle.spread.specs.Depends.{spread}
-use Rattle.spread.specs.declared.SpreadAnswer.{SpreadAnswer}
-use Rattle.spread.specs.declared.SpreadAnswer.the-variants.{Told, Refused}
+use Rattle.net.specs.declared.Verdict.the-variants.{Accepted, Refused}
 use Rattle.spread.specs.declared.Spread.{Spread}
 
 -- a set as flags, one for each part that a sheet can have; no after those of the set
 abbrev pub told : List Bool → Spread
-told m = record { answer = Told; parts = table maxBases (inSet m) }
+told m = record { answer = Accepted; parts = table maxBases (inSet m) }
 
 -- a refused call: the empty set
 unfoldable pub notTold : ℕ → Spread
@@ -29,11 +28,6 @@ notTold n = record { answer = Refused n; parts = replicate maxBases false }
 -- The call's own check, behind 1 to 10: 19, the serial is not live.
 abbrev pub ownChecks : List LiveLine → Key → List Check
 ownChecks ls k = check 19 (not (isLive k ls)) ∷ []
-
--- The papers' number of each answer; 0 where the set is told.
-abbrev pub spreadNumber : SpreadAnswer → ℕ
-spreadNumber Told = 0
-spreadNumber (Refused n) = n
 
 -- ---- By the arrays
 

@@ -14,19 +14,14 @@ use firings::index_of;
 use net::Key;
 use net::MAX_BASES;
 use net::MAX_LIVE;
+use net::Verdict;
 use words::has_base;
 use words::shares;
 use words::union;
 
-// The answer to a call for the spread of a firing; Refused has the number of the papers' lists.
-pub enum SpreadAnswer {
-    Told,
-    Refused(u8),
-}
-
 // The answer, and a flag for each part: whether it was moved by the firing or by one that depends on it. Unused flags are no.
 pub struct Spread {
-    pub answer: SpreadAnswer,
+    pub answer: Verdict,
     pub parts: [bool; MAX_BASES],
 }
 
@@ -67,7 +62,7 @@ fn tell(set: u64) -> Spread
         p += 1;
     }
     Spread {
-        answer: SpreadAnswer::Told,
+        answer: Verdict::Accepted,
         parts: parts,
     }
 }
@@ -77,7 +72,7 @@ pub fn tell_none(n: u8) -> Spread
     ensures { λ r. ⌜ r ≡ notTold n ⌝ }
 {
     Spread {
-        answer: SpreadAnswer::Refused(n),
+        answer: Verdict::Refused(n),
         parts: [false; MAX_BASES],
     }
 }

@@ -7,7 +7,6 @@ use net::Key;
 use net::MAX_BASES;
 use oracle::sets::only;
 use session::Record;
-use spread::SpreadAnswer;
 
 // What differs is a sum of these: the answer to a command; of the call the number, the parts; of the sets of firings that can be taken
 // back, that none is the least, the parts of the least; of the forward run a command, a place, a coupling; more live firings than can be
@@ -63,14 +62,6 @@ pub fn go_on(p: Led, sheet: &[u8], bytes: &[u8], reply: u64) -> Led {
     }
 }
 
-// The number of an answer; 0 where the parts are told.
-fn number_of(a: SpreadAnswer) -> u64 {
-    match a {
-        SpreadAnswer::Told => 0,
-        SpreadAnswer::Refused(n) => n as u64,
-    }
-}
-
 fn flag_set(there: bool, p: usize) -> u64 {
     if there { only(p) } else { 0 }
 }
@@ -98,7 +89,7 @@ pub fn asked(r: Record, sheet: &[u8], key: u64) -> Told {
     let a = spread.answer;
     let parts = spread.parts;
     Told {
-        number: number_of(a),
+        number: a.number() as u64,
         set: set_of(parts),
     }
 }

@@ -11,7 +11,6 @@ use session::block::block_with;
 use session::run::run;
 use session_start::start;
 use sheet::check_sheet;
-use sheet::sheet_number;
 use tally::Tally;
 
 // The bytes of a block of 1,000 commands.
@@ -88,7 +87,8 @@ pub fn one_block(sheet: &[u8], commands: &[u8]) -> BlockCounted {
 pub fn run_list(sheet: &[u8], commands: &[u8])
     requires { ⌜ length (now commands) ≤ 65536 ⌝ }
 {
-    let refusal = sheet_number(check_sheet(sheet));
+    let checked = check_sheet(sheet);
+    let refusal = checked.number();
     if refusal != 0 {
         return;
     }

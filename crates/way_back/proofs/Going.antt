@@ -14,7 +14,7 @@ use Rattle.net.specs.declared.Key.{Key}
 use Rattle.marking.specs.Form.{padWith}
 use Rattle.marking.proofs.Padding.{pad-more, pad-same}
 use Rattle.way_back.specs.Answer.{goneFrom, wayOf}
-use Rattle.way_back.specs.declared.WayAnswer.the-variants.{Found}
+use Rattle.net.specs.declared.Verdict.the-variants.{Accepted}
 
 module _ (before left : List ℕ) (live : ℕ) where
   -- Before the turn for the entry i - 1: the keys stored so far and those that are to come are all.
@@ -53,7 +53,7 @@ module _ (before left : List ℕ) (live : ℕ) where
         few = (let a = H .few in omega arith);
       }
 
-  pub hand-all : (i : ℕ) (keys : List Key) (count : ℕ) → i ≡ 0 → InHand i keys count → record { answer = Found; count = count; keys = keys } ≡ wayOf (goneFrom before left live)
+  pub hand-all : (i : ℕ) (keys : List Key) (count : ℕ) → i ≡ 0 → InHand i keys count → record { answer = Accepted; count = count; keys = keys } ≡ wayOf (goneFrom before left live)
   hand-all i keys count e H =
       let q : H .stored ≡ goneFrom before left live = sym (append-nil (H .stored)) ∙ ap (λ (n : ℕ). H .stored ++ goneFrom before left n) (sym e) ∙ H .all-of-them in
-      λ x. record { answer = Found; count = (H .counted ∙ ap length q) x; keys = (H .laid ∙ ap (padWith (key 0) maxLive) q) x }
+      λ x. record { answer = Accepted; count = (H .counted ∙ ap length q) x; keys = (H .laid ∙ ap (padWith (key 0) maxLive) q) x }

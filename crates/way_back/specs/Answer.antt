@@ -13,8 +13,7 @@ use Rattle.net.specs.declared.Key.{Key}
 use Rattle.layout.specs.Layout.{unfitLayout}
 use Rattle.marking.specs.Form.{padWith}
 use Rattle.way_back.specs.Ways.{noWay, wayBack}
-use Rattle.way_back.specs.declared.WayAnswer.{WayAnswer}
-use Rattle.way_back.specs.declared.WayAnswer.the-variants.{Found, Refused}
+use Rattle.net.specs.declared.Verdict.the-variants.{Accepted, Refused}
 use Rattle.way_back.specs.declared.WayBack.{WayBack}
 
 -- Of the first n numbers of an array, those that are not in `left`, from the last down.
@@ -24,7 +23,7 @@ goneFrom before left (suc n) = pick (any (λ x. eqb x (getD before n 0)) left) (
 
 -- a set of keys in its order, with their number; every entry after them holds 0
 abbrev pub wayOf : List Key → WayBack
-wayOf ks = record { answer = Found; count = length ks; keys = padWith (key 0) maxLive ks }
+wayOf ks = record { answer = Accepted; count = length ks; keys = padWith (key 0) maxLive ks }
 
 -- a refused call: the empty set
 unfoldable pub noWayBack : ℕ → WayBack
@@ -37,8 +36,3 @@ wayChecks net w j = check 27 (unfitLayout (net .bases) (net .places) w) ∷ chec
 -- 27, 28, or the way back
 unfoldable pub wayFrom : Net → List ℕ → Journal → WayBack
 wayFrom net w j = pick (clear (wayChecks net w j)) (wayOf (wayBack net w j)) (noWayBack (first (wayChecks net w j)))
-
--- The papers' number of each answer; 0 where a way is found.
-abbrev pub wayNumber : WayAnswer → ℕ
-wayNumber Found = 0
-wayNumber (Refused n) = n

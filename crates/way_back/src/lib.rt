@@ -35,17 +35,12 @@ use net::MAX_BASES;
 use net::MAX_BONDS;
 use net::MAX_LIVE;
 use net::Place;
+use net::Verdict;
 use undoing::undo_at;
-
-// The answer to a call for the way back; Refused has the number of the papers' lists.
-pub enum WayAnswer {
-    Found,
-    Refused(u8),
-}
 
 // The answer, how many firings are to be taken back, and their keys in descending order. Unused entries hold 0.
 pub struct WayBack {
-    pub answer: WayAnswer,
+    pub answer: Verdict,
     pub count: usize,
     pub keys: [Key; MAX_LIVE],
 }
@@ -57,7 +52,7 @@ pub fn no_way(n: u8) -> WayBack
     let zero = Key(0);
     let keys = [zero; MAX_LIVE];
     WayBack {
-        answer: WayAnswer::Refused(n),
+        answer: Verdict::Refused(n),
         count: 0,
         keys: keys,
     }
@@ -110,7 +105,7 @@ fn gone_keys<'a>(
         i -= 1;
     }
     WayBack {
-        answer: WayAnswer::Found,
+        answer: Verdict::Accepted,
         count: count,
         keys: keys,
     }

@@ -13,7 +13,6 @@ use net::MAX_LIVE;
 use oracle::UNDONE;
 use oracle::sets::get;
 use session::Record;
-use way_back::WayAnswer;
 use way_back::WayBack;
 
 // What differs is a sum of these.
@@ -108,14 +107,6 @@ fn going_differs(
     unless(p.holds, COMMAND) | unless(all_there(places, layout), PLACE)
 }
 
-// The number of an answer; 0 where a way is found.
-fn number_of(a: WayAnswer) -> u64 {
-    match a {
-        WayAnswer::Found => 0,
-        WayAnswer::Refused(n) => n as u64,
-    }
-}
-
 fn same_keys(ours: [Key; MAX_LIVE], keys: &[u64]) -> bool {
     let mut same = true;
     let mut i: usize = 0;
@@ -130,7 +121,7 @@ fn same_keys(ours: [Key; MAX_LIVE], keys: &[u64]) -> bool {
 fn way_differs(w: WayBack, number: u64, keys: &[u64], n: usize) -> u64 {
     let a = w.answer;
     let ours = w.keys;
-    let answer = unless(number_of(a) == number, ANSWER);
+    let answer = unless(a.number() as u64 == number, ANSWER);
     answer | (unless(w.count == n, COUNT) | unless(same_keys(ours, keys), KEYS))
 }
 
@@ -149,5 +140,5 @@ pub fn asked(
     let a = w.answer;
     let way = way_differs(w, number, keys, n) | unless(p.holds, BEFORE);
     let going = going_differs(r, sheet, layout, number, keys, n);
-    judged(c, number_of(a), number, way | going);
+    judged(c, a.number() as u64, number, way | going);
 }

@@ -21,10 +21,10 @@ use least_sets::least::number_for;
 use least_sets::table::MOST;
 use least_sets::table::SETS;
 use least_sets::table::lay_table;
+use net::Verdict;
 use oracle::STATE;
 use oracle::sets::get;
 use oracle::sets::put;
-use session::StartAnswer;
 use session_start::start;
 
 // A command's bytes, given to both engines.
@@ -122,7 +122,7 @@ fn ended(c: &mut [u64], p: Led, sheet: &[u8], w: &[u64], s: [u64; STATE], seed: 
 pub fn session(c: &mut [u64], sheet: &[u8], w: &[u64], seed: u64) {
     let first = start(sheet);
     let a = first.answer;
-    let StartAnswer::Started = a else {
+    let Verdict::Accepted = a else {
         more(c, SHEETS_REFUSED, 1, true);
         return;
     };

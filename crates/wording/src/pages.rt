@@ -5,32 +5,23 @@ use crate::put::put;
 use crate::put::put_count;
 use crate::put::put_refusal;
 use crate::put::put_text;
-use live_list::LiveAnswer;
 use live_list::LiveFirings;
 use page::lendable;
 use page::page_of;
-use page_lines::page_number;
 use session::Record;
 
 const PAGE: usize = 2091;
-
-fn live_refusal(a: LiveAnswer) -> u8 {
-    match a {
-        LiveAnswer::Listed => 0,
-        LiveAnswer::Refused(n) => n,
-    }
-}
 
 // A page of a list. Answers the number that it is refused by; 0 where it is printed.
 fn page_from(l: LiveFirings, number: u16, buf: &mut [u8]) -> u8 {
     let listed = l.answer;
     let list = l.firings;
-    let refusal = live_refusal(listed);
+    let refusal = listed.number();
     if refusal != 0 {
         return refusal;
     }
     let a = page_of(lendable(list), l.count, number, buf);
-    page_number(a)
+    a.number()
 }
 
 // The page of a record's live firings.

@@ -6,16 +6,14 @@ use crate::put::put_refusal;
 use crate::put::put_text;
 use firings::Firings;
 use lamps::Lamps;
-use lamps::LampsAnswer;
 use listing::Listing;
-use listing::ListingAnswer;
 use net::Key;
 use net::MAX_BASES;
 use net::MAX_LIVE;
 use net::Transition;
+use net::Verdict;
 use session::Record;
 use spread::Spread;
-use spread::SpreadAnswer;
 
 // `lamp yes` or `lamp no`.
 pub fn put_lamp(buf: &mut [u8], r: Record, sheet: &[u8], key: u16) -> usize {
@@ -39,8 +37,8 @@ fn put_shown(buf: &mut [u8], f: Firings, l: Lamps) -> usize {
     let lit = l.lit;
     let a = l.answer;
     match a {
-        LampsAnswer::Shown => put_lit(buf, keys, lit),
-        LampsAnswer::Refused(n) => put_refusal(buf, n),
+        Verdict::Accepted => put_lit(buf, keys, lit),
+        Verdict::Refused(n) => put_refusal(buf, n),
     }
 }
 
@@ -76,8 +74,8 @@ fn put_told(buf: &mut [u8], told: Spread) -> usize {
     let parts = told.parts;
     let a = told.answer;
     match a {
-        SpreadAnswer::Told => put_reached(buf, parts),
-        SpreadAnswer::Refused(n) => put_refusal(buf, n),
+        Verdict::Accepted => put_reached(buf, parts),
+        Verdict::Refused(n) => put_refusal(buf, n),
     }
 }
 
@@ -102,8 +100,8 @@ fn put_listed(buf: &mut [u8], l: Listing) -> usize {
     let steps = l.transitions;
     let a = l.answer;
     match a {
-        ListingAnswer::Given => put_steps(buf, steps, l.count),
-        ListingAnswer::Refused(n) => put_refusal(buf, n),
+        Verdict::Accepted => put_steps(buf, steps, l.count),
+        Verdict::Refused(n) => put_refusal(buf, n),
     }
 }
 

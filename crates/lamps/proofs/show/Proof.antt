@@ -12,7 +12,7 @@ use Rattle.bonds.proofs.Fill.{fill-end, fill-turn}
 use Rattle.net.specs.Limits.{maxLive}
 use Rattle.net.specs.Tests.{table}
 use Rattle.lamps.specs.Lamps.{litAt}
-use Rattle.lamps.specs.declared.LampsAnswer.the-variants.{Shown}
+use Rattle.net.specs.declared.Verdict.the-variants.{Accepted}
 use Rattle.lamps.proofs.show.Statement.{statement}
 use Rattle.lamps.proofs.show.Tie as tie
 
@@ -49,7 +49,7 @@ returns c =
     let at : tie.At-loop Inv-loop μ-loop = c .before in
     let s : tie.Start Inv-loop μ-loop = at .before in
     let f = litAt (s .args .movers .now) (s .args .live) (s .args .keys .now) (s .args .moved .now) in
-    ap (λ (l : List Bool). record { answer = Shown; count = s .args .live; lit = l }) (fill-end f (at .loop .i) maxLive _ _ (at .loop .inv .1) (omega arith) (at .loop .inv .2))
+    ap (λ (l : List Bool). record { answer = Accepted; count = s .args .live; lit = l }) (fill-end f (at .loop .i) maxLive _ _ (at .loop .inv .1) (omega arith) (at .loop .inv .2))
 
 pub show-spec : {M : Type 1} → statement M
 show-spec =

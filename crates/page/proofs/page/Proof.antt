@@ -42,9 +42,9 @@ use Rattle.firings.specs.declared.Firing.{Firing}
 use Rattle.firings.proofs.Firing as T
 use Rattle.page_lines.specs.Page.{rowsIn}
 use Rattle.page_lines.specs.Answers.{Laid}
-use Rattle.page_lines.specs.declared.PageAnswer.{PageAnswer}
-use Rattle.page_lines.proofs.PageAnswer as An
-use Rattle.page_lines.proofs.PageAnswer.Laws as An′
+use Rattle.net.specs.declared.Verdict.{Verdict}
+use Rattle.net.proofs.Verdict as An
+use Rattle.net.proofs.Verdict.Laws as An′
 use Rattle.page.specs.Rows.{noRows, withFiring, Paged}
 use Rattle.page.specs.declared.Rows.{Rows}
 use Rattle.page.proofs.Reading.{paged-of}
@@ -75,7 +75,7 @@ abbrev valR : Rows → Val
 valR = LL.val R.the-type R′.the-laws
 
 -- what the contract says, from what the three calls say
-told : (ys : List Firing) (k : ℕ) (bs : List ℕ) (r s : Rows) (a : PageAnswer) (zs : List ℕ) → r ≡ noRows → s ≡ foldl withFiring r ys → Laid (rowsIn (s .keys) (s .steps) (s .moved) (length ys)) (length ys) k bs a zs → Paged ys k bs a zs
+told : (ys : List Firing) (k : ℕ) (bs : List ℕ) (r s : Rows) (a : Verdict) (zs : List ℕ) → r ≡ noRows → s ≡ foldl withFiring r ys → Laid (rowsIn (s .keys) (s .steps) (s .moved) (length ys)) (length ys) k bs a zs → Paged ys k bs a zs
 told ys k bs r s a zs e e′ w = paged-of ys k bs a zs s (e′ ∙ ap (λ (t : Rows). foldl withFiring t ys) e) w
 
 module _ {M : Type 1} (𝓤 : URA M) (H : Heap 𝓤) (A : Atoms 𝓤) (mem : Memory → SProp 𝓤) (run : Routine → Fun 𝓤) where
@@ -118,7 +118,7 @@ module _ {M : Type 1} (𝓤 : URA M) (H : Heap 𝓤) (A : Atoms 𝓤) (W : Given
   abbrev OwnB : Fml
   OwnB = MutSlice (named 1) κ′ u8 .own bf (bv ∷ [])
 
-  exits : (a : PageAnswer) (w : Val) (zs : List ℕ) → Paged ys k bs a zs → length zs ≡ length bs
+  exits : (a : Verdict) (w : Val) (zs : List ℕ) → Paged ys k bs a zs → length zs ≡ length bs
       → ent 𝓤 (⋆ 𝓤 H A ((‵ (flft κ q) ⊛ ‵ (flft κ′ q′) ⊛ ‵ ftrue) ∷ ‵ OwnL ∷ ‵ (finally u8 γ′ zs) ∷ ‵ (An.the-row .own a (w ∷ [])) ∷ [])) (Post w)
   exits a w zs e l =
       qed W ((‵ (flft κ q) ⊛ ‵ (flft κ′ q′) ⊛ ‵ ftrue) ∷ ‵ OwnL ∷ ‵ (finally u8 γ′ zs) ∷ ‵ (An.the-row .own a (w ∷ [])) ∷ []) ∵
@@ -161,7 +161,7 @@ module _ {M : Type 1} (𝓤 : URA M) (H : Heap 𝓤) (A : Atoms 𝓤) (W : Given
       owned ! R.the-row (Is R.the-row) ((LL.makes R.the-type R′.the-plain) 𝓤 H A) s _ is $ fjoin ! $ move ! (1 ∷ 0 ∷ []) $ join ! $ frame ! $ done !
 
   -- what `laid` says of its answer and the buffer
-  abbrev Said : Rows → PageAnswer → List ℕ → Type 0
+  abbrev Said : Rows → Verdict → List ℕ → Type 0
   Said s a zs = Laid (rowsIn (s .keys) (s .steps) (s .moved) (length ys)) (length ys) k bs a zs
 
   module _ (C : Calls 𝓤 H) (Λ : Loops 𝓤 H) (fm : FmC 𝓤 H (W .laws) C) (known-no-rows : Triple 𝓤 (C #no-rows) (NoRows 𝓤 H A mem run)) (known-gathered : Triple 𝓤 (C #gathered) (Gathers 𝓤 H A mem run)) (known-laid : Triple 𝓤 (C #laid) (Lays 𝓤 H A mem run)) where
@@ -197,7 +197,7 @@ module _ {M : Type 1} (𝓤 : URA M) (H : Heap 𝓤) (A : Atoms 𝓤) (W : Given
         move ! (21 ∷ 20 ∷ []) $ use2 W (raw (Lays 𝓤 H A mem run .pre (to-laid s))) (goes-laid s (subst (Is R.the-row s) (LL.tells R.the-type R′.the-laws s _ is-s) is-s)) $
         -- [what laid asks; κ's token (1); _8 (2); _7 (4); _6 (6); _5 (8); _4 (10); _3 (12); _2 (14); _1 (16); room for _0 (18); the list's (20)]
         calls-at ! fm (Lays 𝓤 H A mem run) known-laid (to-laid s) (and-then ! (load ! (from ! (stop !)) (look ! 10 refl)) (and-then ! (load ! (from ! (stop !)) (look ! 6 refl)) (and-then ! (load ! (from ! (stop !)) (look ! 14 refl)) (and-then ! (load ! (from ! (stop !)) (look ! 2 refl)) (no-more !))))) (λ w.
-        use1 W (later (some (λ (a : PageAnswer). ((‵ (flft κ′ q′) ⊛ ‵ ftrue) ⊛ ‵ (An.the-row .own a (w ∷ []))) ⊛ raw (ensured 𝓤 H A laid.ended (laid.clauses 𝓤 H A mem run) (κ′, tt) (passed s) tt a)))) (id⊢ 𝓤 _) $ await ! tt $ pick ! (λ a.
+        use1 W (later (some (λ (a : Verdict). ((‵ (flft κ′ q′) ⊛ ‵ ftrue) ⊛ ‵ (An.the-row .own a (w ∷ []))) ⊛ raw (ensured 𝓤 H A laid.ended (laid.clauses 𝓤 H A mem run) (κ′, tt) (passed s) tt a)))) (id⊢ 𝓤 _) $ await ! tt $ pick ! (λ a.
         split ! $ move ! (1 ∷ []) $ use1 W (some (λ (zs : Unit {0} × (Unit {0} × (Unit {0} × (List ℕ × Unit {0})))). ‵ (lasts laid.ended (κ′, tt) (passed s) zs) ⊛ raw (fact 𝓤 (Said s a (zs .1 .1 .1 .0))))) (id⊢ 𝓤 _) $ pick ! (λ zs.
         split ! $ move ! (1 ∷ []) $ heard ! (Said s a (zs .1 .1 .1 .0)) (λ e″. fsplit ! $ drop ! $ fsplit ! $ drop ! $ fsplit ! $ drop ! $ fsplit ! $ fsplit ! $ move ! (1 ∷ []) $ feqL ! (λ l.
         -- [the buffer's last bytes; true; the token and the answer (2); κ's token (3); _8 (4); …]

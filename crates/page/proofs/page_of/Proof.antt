@@ -55,9 +55,9 @@ use Rattle.net.specs.Tests.{pick as choose}
 use Rattle.firings.specs.declared.Firing.{Firing}
 use Rattle.firings.proofs.Firing as T
 use Rattle.firings.proofs.Firing.Laws as T′
-use Rattle.page_lines.specs.declared.PageAnswer.{PageAnswer}
-use Rattle.page_lines.proofs.PageAnswer as An
-use Rattle.page_lines.proofs.PageAnswer.Laws as An′
+use Rattle.net.specs.declared.Verdict.{Verdict}
+use Rattle.net.proofs.Verdict as An
+use Rattle.net.proofs.Verdict.Laws as An′
 use Rattle.page.specs.Rows.{lentFirings, Paged}
 use Rattle.page.proofs.Reading.{cut-length}
 use Rattle.page.proofs.at_most as at-most
@@ -147,7 +147,7 @@ module _ {M : Type 1} (𝓤 : URA M) (H : Heap 𝓤) (A : Atoms 𝓤) (W : Given
   abbrev OwnB : Fml
   OwnB = MutSlice (named 0) κ u8 .own bf (bv ∷ [])
 
-  exits : (a : PageAnswer) (w : Val) (zs : List ℕ) → Paged ys k bs a zs → length zs ≡ length bs
+  exits : (a : Verdict) (w : Val) (zs : List ℕ) → Paged ys k bs a zs → length zs ≡ length bs
       → ent 𝓤 (⋆ 𝓤 H A ((‵ (flft κ q) ⊛ ‵ ftrue) ∷ ‵ (finally u8 γ zs) ∷ ‵ (An.the-row .own a (w ∷ [])) ∷ [])) (Post w)
   exits a w zs e l =
       qed W ((‵ (flft κ q) ⊛ ‵ ftrue) ∷ ‵ (finally u8 γ zs) ∷ ‵ (An.the-row .own a (w ∷ [])) ∷ []) ∵
@@ -218,7 +218,7 @@ module _ {M : Type 1} (𝓤 : URA M) (H : Heap 𝓤) (A : Atoms 𝓤) (W : Given
         move ! (2 ∷ 25 ∷ []) $ join ! $ move ! (0 ∷ 1 ∷ 25 ∷ []) $ use3 W (raw (Pages 𝓤 H A mem′ run .pre (to-page α l₅ δ))) (goes-page α l₅ δ) $
         -- [what page asks; the lender's part (1); the rest (2); _10 (3); _9 (5); _8 (7); _7 (9); _6 (11); (13); _4 (14); _3 (16); _2 (18); _1 (20); room for _0 (22)]
         calls-at ! fm (Pages 𝓤 H A mem′ run) known-page (to-page α l₅ δ) (and-then ! (load ! (from ! (stop !)) (look ! 7 refl)) (and-then ! (load ! (from ! (stop !)) (look ! 16 refl)) (and-then ! (load ! (from ! (stop !)) (look ! 3 refl)) (no-more !)))) (λ u.
-        use1 W (later (some (λ (a : PageAnswer). ((‵ (flft (α ∷ []) fullShare) ⊛ ‵ (flft κ q) ⊛ ‵ ftrue) ⊛ ‵ (An.the-row .own a (u ∷ []))) ⊛ raw (ensured 𝓤 H A page.ended (page.clauses 𝓤 H A mem′ run) (α ∷ [], (κ, tt)) (passed l₅ δ) tt a)))) (id⊢ 𝓤 _) $ await ! tt $ pick ! (λ a.
+        use1 W (later (some (λ (a : Verdict). ((‵ (flft (α ∷ []) fullShare) ⊛ ‵ (flft κ q) ⊛ ‵ ftrue) ⊛ ‵ (An.the-row .own a (u ∷ []))) ⊛ raw (ensured 𝓤 H A page.ended (page.clauses 𝓤 H A mem′ run) (α ∷ [], (κ, tt)) (passed l₅ δ) tt a)))) (id⊢ 𝓤 _) $ await ! tt $ pick ! (λ a.
         split ! $ move ! (1 ∷ []) $ use1 W (some (λ (zs : Unit {0} × (Unit {0} × (List ℕ × Unit {0}))). ‵ (lasts page.ended (α ∷ [], (κ, tt)) (passed l₅ δ) zs) ⊛ raw (fact 𝓤 (Paged ys k bs a (zs .1 .1 .0))))) (id⊢ 𝓤 _) $ pick ! (λ zs.
         split ! $ move ! (1 ∷ []) $ heard ! (Paged ys k bs a (zs .1 .1 .0)) (λ e′. fsplit ! $ drop ! $ fsplit ! $ drop ! $ fsplit ! $ fsplit ! $ move ! (1 ∷ []) $ feqL ! (λ l.
         -- [the buffer's last bytes; true; the tokens and the answer (2); the lender's part (3); the rest (4); _10 (5); …]

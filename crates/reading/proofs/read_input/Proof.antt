@@ -48,8 +48,8 @@ part-check-sheet-end c = search needs
 check-sheet-requires : tie.Need-check-sheet-requires
 check-sheet-requires c κs = search needs
 
-sheet-number-requires : tie.Need-sheet-number-requires
-sheet-number-requires c κs = search needs
+number-requires : tie.Need-number-requires
+number-requires c κs = search needs
 
 same-length-3 : tie.Need-same-length-3
 same-length-3 c = search needs
@@ -58,7 +58,7 @@ returns-3 : tie.Need-returns-3
 returns-3 c =
     let word = c .before .before .before .before .before .before .before .before .before .before .before .word-at .ensures .0 in
     let second = c .before .before .before .before .before .before .before .before .before .read-to2 in
-    let number = c .before .sheet-number .ensures ∙ c .before .before .check-sheet .ensures .1 in
+    let number = c .before .number .ensures ∙ c .before .before .check-sheet .ensures .1 in
     let (all, sound) = second .ensures .1 (was-full _ (c .before .before .before .before .before .if2 .left)) in
     let looked = read-refused _ (c .before .before .before .before .before .before .before .before .before .before .before .before .before .before .before .before .before .read-to .last .0) (second .last .0) word (second .ensures .2) _ number (c .if3 .taken) in
     (search needs, λ _. (rw all looked, sound))
@@ -80,7 +80,7 @@ returns-4 c =
     let word = c .before .before .before .before .before .before .before .before .before .before .before .before .before .before .before .word-at .ensures .0 in
     let second = c .before .before .before .before .before .before .before .before .before .before .before .before .before .read-to2 in
     let third = c .before .before .read-to3 in
-    let number = c .before .before .before .before .before .sheet-number .ensures ∙ c .before .before .before .before .before .before .check-sheet .ensures .1 in
+    let number = c .before .before .before .before .before .number .ensures ∙ c .before .before .before .before .before .before .check-sheet .ensures .1 in
     let looked = read-accepted _ (c .before .before .before .before .before .before .before .before .before .before .before .before .before .before .before .before .before .before .before .before .before .read-to .last .0) (second .last .0) word (second .ensures .2) _ number (c .before .before .before .before .if3 .left) (third .last .0) (third .ensures .2) in
     (omega (arith, third .ensures .0, c .before .before .before .before .before .before .before .before .before .before .before .before .before .before .before .word-at .ensures .1, c .before .before .before .before .before .before .before .before .before .before .before .before .before .before .before .before .before .before .before .before .before .before .before .before .pre), λ e. (rw (third .ensures .1 e .0) looked, third .ensures .1 e .1))
 
@@ -100,7 +100,7 @@ read-input-spec =
     part-check-sheet-start
     part-check-sheet-end
     check-sheet-requires
-    sheet-number-requires
+    number-requires
     same-length-3
     returns-3
     mul-read-to

@@ -22,7 +22,7 @@ use Rattle.sound.proofs.record_refusal.Statement.{statement}
 use Rattle.sound.proofs.record_refusal.Tie as tie
 
 -- the function's start, and what lies in its arrays
-abbrev start : tie.After-sheet-number → tie.Start
+abbrev start : tie.After-number → tie.Start
 start k = k .before .before .before
 
 abbrev marking : tie.Start → Marking
@@ -37,19 +37,19 @@ from c = c .before .before .before .before .before .before
 
 -- a sheet that was accepted
 accepted : (e : tie.Else1) → clear (sheetChecks (start (e .before) .args .sheet .now)) ≡ true
-accepted e = sheet-clear (start (e .before) .args .sheet .now) _ (e .before .sheet-number .ensures ∙ e .before .before .check-sheet .ensures .1) (e .if1 .left)
+accepted e = sheet-clear (start (e .before) .args .sheet .now) _ (e .before .number .ensures ∙ e .before .before .check-sheet .ensures .1) (e .if1 .left)
 
 check-sheet-requires : tie.Need-check-sheet-requires
 check-sheet-requires c κs = search needs
 
-sheet-number-requires : tie.Need-sheet-number-requires
-sheet-number-requires c κs = search needs
+number-requires : tie.Need-number-requires
+number-requires c κs = search needs
 
 returns : tie.Need-returns
 returns c =
-    let k : tie.After-sheet-number = c .before in
+    let k : tie.After-number = c .before in
     let s : tie.Start = start k in
-    (by-sheet (s .args .sheet .now) (marking s) (firings s) (s .args .given) (s .args .movers .now) _ (k .sheet-number .ensures ∙ k .before .check-sheet .ensures .1) (c .if1 .taken), λ z. absurd (c .if1 .taken z))
+    (by-sheet (s .args .sheet .now) (marking s) (firings s) (s .args .given) (s .args .movers .now) _ (k .number .ensures ∙ k .before .check-sheet .ensures .1) (c .if1 .taken), λ z. absurd (c .if1 .taken z))
 
 is-sound-requires : tie.Need-is-sound-requires
 is-sound-requires c κs = accepted c
@@ -118,4 +118,4 @@ returns-5 c =
     (by-record (s .args .sheet .now) (marking s) (firings s) (s .args .given) (s .args .movers .now) (accepted e) (λ i. settled (d .before) i && no i), λ z. absurd (let q : ⊥ = omega arith in q))
 
 pub record-refusal-spec : {M : Type 1} → statement M
-record-refusal-spec = tie.close (tie.spec check-sheet-requires sheet-number-requires returns is-sound-requires returns-2 last-key-requires returns-3 fits-requires returns-4 returns-5)
+record-refusal-spec = tie.close (tie.spec check-sheet-requires number-requires returns is-sound-requires returns-2 last-key-requires returns-3 fits-requires returns-4 returns-5)

@@ -12,7 +12,7 @@ use Rattle.net.specs.Limits.{maxBases}
 use Rattle.net.specs.Tests.{table}
 use Rattle.net.specs.Firing.{inSet}
 use Rattle.words.specs.Sets.{setOf}
-use Rattle.spread.specs.declared.SpreadAnswer.the-variants.{Told}
+use Rattle.net.specs.declared.Verdict.the-variants.{Accepted}
 use Rattle.spread.proofs.tell.Statement.{statement}
 use Rattle.spread.proofs.tell.Tie as tie
 
@@ -50,7 +50,7 @@ returns : tie.Need-returns Inv-loop μ-loop
 returns c =
     let at : tie.At-loop Inv-loop μ-loop = c .before in
     let s : tie.Start Inv-loop μ-loop = at .before in
-    ap (λ (l : List Bool). record { answer = Told; parts = l }) (fill-end (inSet (setOf maxBases (s .args .set))) (at .loop .p) maxBases _ _ (at .loop .inv .1) (omega arith) (at .loop .inv .2))
+    ap (λ (l : List Bool). record { answer = Accepted; parts = l }) (fill-end (inSet (setOf maxBases (s .args .set))) (at .loop .p) maxBases _ _ (at .loop .inv .1) (omega arith) (at .loop .inv .2))
 
 pub tell-spec : {M : Type 1} → statement M
 tell-spec =

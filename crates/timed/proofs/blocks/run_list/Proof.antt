@@ -11,8 +11,8 @@ use Rattle.timed.proofs.blocks.run_list.Tie as tie
 check-sheet-requires : tie.Need-check-sheet-requires
 check-sheet-requires c κs = search needs
 
-sheet-number-requires : tie.Need-sheet-number-requires
-sheet-number-requires c κs = search needs
+number-requires : tie.Need-number-requires
+number-requires c κs = search needs
 
 returns : tie.Need-returns
 returns c = search needs
@@ -36,9 +36,9 @@ run-requires : tie.Need-run-requires
 run-requires c κs =
     let b : tie.After-start = c .before .before .before .before .before in
     let e : tie.Else1 = b .before in
-    let n : tie.After-sheet-number = e .before in
+    let n : tie.After-number = e .before in
     let s : tie.Start = n .before .before .before .before in
-    let a = sheet-clear (s .args .sheet .now) _ (n .sheet-number .ensures ∙ n .before .check-sheet .ensures .1) (e .if1 .left) in
+    let a = sheet-clear (s .args .sheet .now) _ (n .number .ensures ∙ n .before .check-sheet .ensures .1) (e .if1 .left) in
     (started-sound (s .args .sheet .now) _ (b .start .ensures .0) a, search needs, search needs)
 
 slice-aggregate-summed-all : tie.Need-slice-aggregate-summed-all
@@ -64,7 +64,7 @@ run-list-spec =
     tie.close
     (tie.spec
     check-sheet-requires
-    sheet-number-requires
+    number-requires
     returns
     start-requires
     word-room-requires
