@@ -7,6 +7,7 @@ use Prim.Native.Nat.{ℕ}
 use native.Mathlib.Omega.{arith}
 use Rattle.causal.proofs.Tests.{both}
 use Rattle.net.specs.Net as W
+use Rattle.net.specs.Firing.{breaksNone}
 use Rattle.net.specs.Net.{Net, hasBond, arcsOf, place}
 use Rattle.net.specs.Checks.{clear}
 use Rattle.net.specs.Journal.{Journal, transition, begin, act, play}
@@ -20,7 +21,7 @@ use Rattle.published.specs.Forward.{Enabled, firedMarks}
 use Rattle.published.specs.Backtracking.{BacktrackEnabled}
 use Rattle.published.specs.Causal.{CausalEnabled}
 use Rattle.published.specs.Uncoupling.{Keeps, Enabled7, fired22}
-use Rattle.published.specs.Sheets.{petriNet, keepsAll, breaksNothing}
+use Rattle.published.specs.Sheets.{petriNet, breaksNothing}
 use Rattle.format.specs.Parts.{partOf, transitionBytes}
 use Rattle.format.specs.NetOf.{netOf}
 use Rattle.sheet_head.specs.Conditions.{wrongSize, wrongVersion, wrongCounts, wrongPairs, wrongStartPlaces, wrongStartBonds}
@@ -146,7 +147,7 @@ mended-C t = let e = held-after opened t undoLast in (ap (λ (j : Journal). hasB
 
 -- transition 4 keeps 0-1: on this sheet too it is enabled by Definition 4, and gives the marking of Definition 5
 keeps-4 : Keeps (petriNet (netOf sheetC)) (transition 4)
-keeps-4 = published-C .keeps (transition 4) (subst (λ (n : Net). petriNet n .isTransition (transition 4)) (sym sheetC-net) (omega arith)) .1 (ap (λ (n : Net). keepsAll (arcsOf n (transition 4))) sheetC-net)
+keeps-4 = published-C .keeps (transition 4) (subst (λ (n : Net). petriNet n .isTransition (transition 4)) (sym sheetC-net) (omega arith)) .1 (ap (λ (n : Net). breaksNone (arcsOf n (transition 4))) sheetC-net)
 
 pub fires-4 : (t : Tally) → Enabled (petriNet (netOf sheetC)) (marksIn sheetC (recordC [] t)) (transition 4)
     × ((x : ℕ) (i : Item) → Iff (marksIn sheetC (afterC [] t (fireOf 4)) x i) (firedMarks (petriNet (netOf sheetC)) (marksIn sheetC (recordC [] t)) (transition 4) x i))

@@ -1,4 +1,5 @@
 -- The demands, proved.
+pub mod Cases
 pub mod Checks
 pub mod Sheets
 pub mod Answers

@@ -8,6 +8,7 @@ use mathlib.Core.List.{List, [], _∷_, _++_}
 use Prim.Native.Nat.{ℕ, suc, _<_}
 use lib.Dec.{eqb}
 use Rattle.causal.specs.Lists.{Mem}
+use Rattle.net.specs.Firing.{breaksNone}
 use Rattle.net.specs.Net.{arcsOf}
 use Rattle.net.specs.Checks.{clear}
 use Rattle.net.specs.Journal.{LiveLine, key, kindOf, numberOf, highestLive, lastGiven, without, transitionNamed, readChecks, spaceChecks}
@@ -19,7 +20,7 @@ use Rattle.published.specs.Forward.{Enabled, leaves, firedMarks, keysWith, keys
 use Rattle.published.specs.Backtracking.{BacktrackEnabled, leavesBack, reversedMarks, reversedKeys}
 use Rattle.published.specs.Causal.{Order, firedOrder, CausalEnabled, reversedOrder}
 use Rattle.published.specs.Uncoupling.{WellFormed20, Keeps}
-use Rattle.published.specs.Sheets.{petriNet, keepsAll, breaksNothing, orderOfLines, laterWithCommon}
+use Rattle.published.specs.Sheets.{petriNet, breaksNothing, orderOfLines, laterWithCommon}
 use Rattle.published.specs.Uncouples.{UncouplesByCases}
 use Rattle.published.specs.Claims.{ByCases, Initial}
 use Rattle.format.specs.NetOf.{netOf}
@@ -131,7 +132,7 @@ pub record FollowsPublished (s : List ℕ) : Type 0 where
   pub wellFormed20 : WellFormed20 (petriNet (netOf s))
   pub wellFormed : Iff (WellFormed (petriNet (netOf s))) (breaksNothing (netOf s) ≡ true)
   -- and a transition of it breaks none exactly if each of its in-bonds is an out-bond
-  pub keeps : (v : Transition) → petriNet (netOf s) .isTransition v → Iff (Keeps (petriNet (netOf s)) v) (keepsAll (arcsOf (netOf s) v) ≡ true)
+  pub keeps : (v : Transition) → petriNet (netOf s) .isTransition v → Iff (Keeps (petriNet (netOf s)) v) (breaksNone (arcsOf (netOf s) v) ≡ true)
   pub byCases : ByCases (netOf s)
   pub uncouplesByCases : UncouplesByCases (netOf s)
   pub initial : Initial (netOf s) (marksIn s (freshOf s)) (historyIn s (freshOf s))

@@ -5,13 +5,15 @@ use mathlib.Core.Bool.{true}
 use mathlib.Core.List.{List, [], _∷_}
 use Prim.Native.Nat.{ℕ}
 use Rattle.net.specs.Tests.{keep}
-use Rattle.net.specs.Net.{Net, arcsOf}
+use Rattle.net.specs.Net.{Net, bond, arcsOf, written}
 use Rattle.net.specs.Rules.{netRule}
 use Rattle.net.specs.Checks.{Check, numbers}
 use Rattle.net.specs.Journal.{Journal, refused, transition, begin, act, play, checks, readChecks, fireChecks, undoChecks}
 use Rattle.net.specs.Firing.{tornWith}
 use Rattle.net.specs.Cases.{netB, fireOf, marked, AllHold}
 use Rattle.net.specs.Clutch.{netC, clutchCases}
+use Rattle.net.specs.Claims.{allNewBonds, allBrokenBonds}
+use Rattle.net.specs.declared.Bond.{Bond}
 use Rattle.net.specs.declared.Transition.{Transition}
 use Rattle.net.specs.declared.Key.{Key}
 
@@ -33,6 +35,17 @@ netC-rule = refl
 -- netC opens 0-1, though 16 by the couplings before the firing would refuse it.
 pub torn-with-old : tornWith (arcsOf netC (transition 1)) (play netC (fireOf 0 ∷ []) (begin netC) .marking .bonds) ≡ true
 torn-with-old = refl
+
+-- Its transition 3 breaks one bond and makes one: so the totals count them.
+pub three-broke : allBrokenBonds netC (play netC (fireOf 3 ∷ []) (begin netC) .lines) ≡ 1
+three-broke = refl
+
+pub three-made : allNewBonds netC (play netC (fireOf 3 ∷ []) (begin netC) .lines) ≡ 1
+three-made = refl
+
+-- The bonds that sheet B writes: the start's, then those of transitions 0, 4 and 5, whose one bond stands on both sides.
+pub written-B : written netB ≡ bond 2 3 ∷ bond 0 2 ∷ bond 2 3 ∷ bond 0 1 ∷ bond 0 1 ∷ []
+written-B = refl
 
 -- The refusals of a command, in checking order.
 pub read-numbers : (c : List ℕ) → numbers (readChecks c) ≡ 21 ∷ 11 ∷ []

@@ -12,7 +12,7 @@ use Rattle.net.specs.Tests.{all}
 use Rattle.net.specs.Net.{Arcs, Marking, Net, hasBond, place, noArcs, arcsOf}
 use Rattle.net.specs.Rules.{netRule}
 use Rattle.net.specs.Marking.{Good}
-use Rattle.net.specs.Firing.{brokenBond}
+use Rattle.net.specs.Firing.{brokenBond, breaksNone}
 use Rattle.net.specs.Journal.{transition}
 use Rattle.net.specs.declared.Bond.{Bond}
 use Rattle.net.specs.declared.Entry.{Entry}
@@ -25,7 +25,7 @@ use Rattle.published.specs.Sets.{Iff, Item, base, bond}
 use Rattle.published.specs.Nets.{Known, Definition2, Pre, WellFormed}
 use Rattle.published.specs.States.{IsMarking, EachInOnePlace}
 use Rattle.published.specs.Uncoupling.{WellFormed20, Keeps}
-use Rattle.published.specs.Sheets.{keepsAll, breaksNothing, petriNet, marksOf}
+use Rattle.published.specs.Sheets.{breaksNothing, petriNet, marksOf}
 use Rattle.published.proofs.Arcs.{one-each}
 
 -- a test of every element, from each place of the list
@@ -106,7 +106,7 @@ module _ (net : Net) (ok : netRule net ≡ true) where
   pub none-broken : WellFormed (petriNet net) → (t : Transition) → t .0 < length (net .transitions) → (β : Bond) → brokenBond (arcsOf net t) β ≡ false
   none-broken W t h = unbroken t h (λ β. W .keptBonds t β h)
 
-  pub keeps-iff : (t : Transition) → t .0 < length (net .transitions) → Iff (Keeps (petriNet net) t) (keepsAll (arcsOf net t) ≡ true)
+  pub keeps-iff : (t : Transition) → t .0 < length (net .transitions) → Iff (Keeps (petriNet net) t) (breaksNone (arcsOf net t) ≡ true)
   keeps-iff t h = (
     (λ K. all-i (λ (β : Bond). hasBond β (arcsOf net t .outBonds)) (arcsOf net t .inBonds) (λ β m. K β (in-pre t h β (mem-has (arcsOf net t .inBonds) β m)) .2 .0)),
     (λ k β (x, _, (u, e, m, b, q)).
@@ -116,10 +116,10 @@ module _ (net : Net) (ok : netRule net ≡ true) where
 
   pub well-formed-iff : Iff (WellFormed (petriNet net)) (breaksNothing net ≡ true)
   well-formed-iff = (
-    (λ W. all-of keepsAll (net .transitions) noArcs (λ n h. keeps-iff (transition n) h .0 (λ β. W .keptBonds (transition n) β h))),
+    (λ W. all-of breaksNone (net .transitions) noArcs (λ n h. keeps-iff (transition n) h .0 (λ β. W .keptBonds (transition n) β h))),
     (λ w. record {
       sameBases = well-formed20 .sameBases;
-      keptBonds = λ t β h. keeps-iff t h .1 (all-at keepsAll (net .transitions) noArcs (t .0) w h) β;
+      keptBonds = λ t β h. keeps-iff t h .1 (all-at breaksNone (net .transitions) noArcs (t .0) w h) β;
       oncePut = well-formed20 .oncePut;
     }),
   )

@@ -7,7 +7,7 @@ use mathlib.Core.Bool.{true}
 use mathlib.Core.List.{List}
 use Prim.Native.Nat.{ℕ, suc, _<_}
 use Rattle.net.specs.Net.{Marking, Net, arcsOf}
-use Rattle.net.specs.Firing.{inSet}
+use Rattle.net.specs.Firing.{inSet, breaksNone}
 use Rattle.net.specs.Checks.{clear}
 use Rattle.net.specs.Journal.{Journal, highestLive, lastGiven, lineOf, enableChecks, undoChecks, newLine, fireReply, undoReply, begin, play, answers}
 use Rattle.net.specs.History.{sound}
@@ -20,7 +20,7 @@ use Rattle.published.specs.Forward.{Enabled, leaves, comes, firedMarks, 
 use Rattle.published.specs.Backtracking.{BacktrackEnabled, leavesBack, comesBack, reversedMarks, reversedKeys}
 use Rattle.published.specs.Causal.{Order, noOrder, firedOrder, CausalEnabled, reversedOrder}
 use Rattle.published.specs.Uncoupling.{WellFormed20, Keeps}
-use Rattle.published.specs.Sheets.{petriNet, keepsAll, breaksNothing, marksOf, historyOf, givenAndZero, orderAfter, orderOfLines, laterWithCommon}
+use Rattle.published.specs.Sheets.{petriNet, breaksNothing, marksOf, historyOf, givenAndZero, orderAfter, orderOfLines, laterWithCommon}
 use Rattle.published.specs.Uncouples.{UncouplesByCases, Uncouples}
 
 -- ---- The reading of Definitions 5 and 7. Where a place is not both incoming and outgoing, the one formula is the chapter's
@@ -135,7 +135,7 @@ pub record Published (net : Net) : Type 0 where
   -- Definition 20, without 3(2); the net is well-formed by Definition 3 exactly if no step of it breaks a bond
   pub wellFormed20 : WellFormed20 (petriNet net)
   pub wellFormed : Iff (WellFormed (petriNet net)) (breaksNothing net ≡ true)
-  pub keeps : (t : Transition) → petriNet net .isTransition t → Iff (Keeps (petriNet net) t) (keepsAll (arcsOf net t) ≡ true)
+  pub keeps : (t : Transition) → petriNet net .isTransition t → Iff (Keeps (petriNet net) t) (breaksNone (arcsOf net t) ≡ true)
   pub byCases : ByCases net
   pub uncouplesByCases : UncouplesByCases net
   pub initial : Initial net (marksOf net (begin net .marking)) (historyOf (begin net))

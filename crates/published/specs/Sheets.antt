@@ -9,8 +9,8 @@ use lib.ListN.{length}
 use Rattle.causal.specs.Lists.{Mem}
 use Rattle.causal.specs.Reorderings.{Dependent}
 use Rattle.net.specs.Tests.{all}
-use Rattle.net.specs.Net.{Arcs, Marking, Net, hasBond, place, arcsOf}
-use Rattle.net.specs.Firing.{inSet, fire}
+use Rattle.net.specs.Net.{Marking, Net, hasBond, place, arcsOf}
+use Rattle.net.specs.Firing.{inSet, fire, breaksNone}
 use Rattle.net.specs.Journal.{LiveLine, Journal, Answer, key, fired, undone, refused, begin, lineOf, transitionNamed, act}
 use Rattle.net.specs.declared.Bond.{Bond}
 use Rattle.net.specs.declared.Entry.{Entry}
@@ -45,12 +45,9 @@ petriNet net = record {
   puts = λ t x. labelAt (λ (e : Entry). e .to) (arcsOf net t .entries) (arcsOf net t .outBonds) x;
 }
 
--- Every in-bond is an out-bond: of one transition, and of every transition of a net.
-abbrev pub keepsAll : Arcs → Bool
-keepsAll t = all (λ (β : Bond). hasBond β (t .outBonds)) (t .inBonds)
-
+-- every transition of a net breaks nothing: each in-bond is an out-bond
 abbrev pub breaksNothing : Net → Bool
-breaksNothing net = all keepsAll (net .transitions)
+breaksNothing net = all breaksNone (net .transitions)
 
 -- a base of the net, or a bond of the marking
 abbrev pub Present : Net → Marking → Items
