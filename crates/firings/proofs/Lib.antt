@@ -3,4 +3,5 @@ pub mod Loops
 pub mod Search
 pub mod Changes
 pub mod Laid
+pub mod Lines
 pub mod Built

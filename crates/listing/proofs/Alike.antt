@@ -1,18 +1,18 @@
 -- The listing looks at the transitions and the moved bases alone: not at keys, nor at how many flags the sets have.
 -- Assumes nothing.
-use mathlib.Core.Path.{_≡_, refl, sym, _∙_, ap}
+use mathlib.Core.Path.{_≡_, refl, _∙_, ap}
 use mathlib.Core.Bool.{Bool, not, _&&_}
 use mathlib.Core.List.{List, [], _∷_}
 use Prim.Native.Nat.{ℕ, zero, suc, _-_, _<_}
 use native.Mathlib.Omega.{arith}
 use lib.Dec.{ltb}
 use lib.ListN.{length, getD, drop}
-use Rattle.net.specs.Tests.{pick}
+use Rattle.net.specs.Tests.{pick, table}
 use Rattle.net.specs.Firing.{inSet}
 use Rattle.net.specs.Journal.{LiveLine, noLine, common}
 use Rattle.net.specs.declared.Transition.{Transition}
 use Rattle.firings.specs.Lines.{stepsOf}
-use Rattle.spread.proofs.Places.{Alike, common-alike, either-alike}
+use Rattle.firings.proofs.Lines.{Alike, common-alike, either-alike, SameLine}
 use Rattle.listing.specs.First.{SerialsApart, stepAt, seenTo, leastTo, nextAt, withoutAt, ordered, listing}
 
 -- ---- lines of the same transitions, with sets of the same bases
@@ -27,11 +27,9 @@ AlikeLines (l ∷ ls) [] = ⊥
 AlikeLines (l ∷ ls) (k ∷ ks) = AlikeLine l k × AlikeLines ls ks
 
 -- by their places
-pub alike-lines : (ls ks : List LiveLine) → length ls ≡ length ks → ((i : ℕ) → i < length ls → AlikeLine (getD ls i noLine) (getD ks i noLine)) → AlikeLines ls ks
-alike-lines [] [] e h = tt
-alike-lines [] (k ∷ ks) e h = absurd (let z : ⊥ = omega arith in z)
-alike-lines (l ∷ ls) [] e h = absurd (let z : ⊥ = omega arith in z)
-alike-lines (l ∷ ls) (k ∷ ks) e h = (h 0 (omega arith), alike-lines ls ks (omega arith) (λ i u. h (suc i) (omega arith)))
+alike-table : (n : ℕ) (f g : ℕ → LiveLine) → ((i : ℕ) → i < n → AlikeLine (f i) (g i)) → AlikeLines (table n f) (table n g)
+alike-table zero f g h = tt
+alike-table (suc n) f g h = (h 0 (omega arith), alike-table n (λ i. f (suc i)) (λ i. g (suc i)) (λ i u. h (suc i) (omega arith)))
 
 pub apart-alike : (ls ks : List LiveLine) → SerialsApart ls ks → AlikeLines ls ks
 apart-alike [] [] h = tt
@@ -108,10 +106,8 @@ listing-same ls ks h =
     ∙ ap (λ (n : ℕ). stepsOf (ordered n ks)) (alike-length ls ks h)
 
 -- Lines of the same transitions at the same places, with sets of the same bases, have one listing.
-pub listing-alike : (ls ks : List LiveLine) → length ls ≡ length ks
-    → ((i : ℕ) → i < length ls → (getD ls i noLine .transition ≡ getD ks i noLine .transition) × ((p : ℕ) → inSet (getD ls i noLine .moved) p ≡ inSet (getD ks i noLine .moved) p))
-    → listing ls ≡ listing ks
-listing-alike ls ks e h = listing-same ls ks (alike-lines ls ks e h)
+pub listing-alike : (n : ℕ) (f g : ℕ → LiveLine) → ((i : ℕ) → i < n → SameLine (f i) (g i)) → listing (table n f) ≡ listing (table n g)
+listing-alike n f g h = listing-same (table n f) (table n g) (alike-table n f g (λ i u. (h i u .transition, h i u .moved)))
 
 -- The listing does not look at serials.
 pub listing-apart : (ls ks : List LiveLine) → SerialsApart ls ks → listing ls ≡ listing ks

@@ -1,39 +1,33 @@
 -- The search for the next line of the listing, by the arrays that hold the live firings.
 -- Assumes nothing.
-use mathlib.Core.Path.{_≡_, refl, sym, _∙_, ap}
+use mathlib.Core.Path.{_≡_, sym, _∙_, ap}
 use mathlib.Core.Bool.{Bool, true, false, not, _&&_}
 use mathlib.Core.List.{List}
-use Prim.Native.Nat.{ℕ, zero, suc, _+_, _-_, _<_, _≤_}
+use Prim.Native.Nat.{ℕ, zero, suc, _+_, _-_, _<_}
 use native.Mathlib.Omega.{arith}
 use native.Mathlib.Numerals.{add-one}
 use lib.Dec.{ltb}
-use lib.ListN.{length, getD}
+use lib.ListN.{getD}
 use Rattle.net.specs.Limits.{maxBases}
 use Rattle.net.specs.Tests.{pick}
 use Rattle.net.specs.Journal.{LiveLine, noLine, common}
-use Rattle.net.proofs.Tables.{length-table, getD-table}
 use Rattle.words.specs.Sets.{setOf, either}
-use Rattle.firings.specs.Lines.{lying, firingAt, asLine, linesIn}
+use Rattle.firings.specs.Lines.{lying, linesIn}
+use Rattle.firings.proofs.Lines.{lines-length, line-at, moved-at}
 use Rattle.listing.specs.First.{stepAt, seenTo, leastTo, nextAt}
 
 module _ (live : ℕ) (ts keys ms : List ℕ) where
   abbrev pub lines : List LiveLine
   lines = linesIn maxBases (lying live ts keys ms)
 
-  pub line-at : (i : ℕ) → i < live → getD lines i noLine ≡ asLine maxBases (firingAt ts keys ms i)
-  line-at i h = getD-table live (λ x. asLine maxBases (firingAt ts keys ms x)) i noLine h
-
   step-at : (i : ℕ) → i < live → stepAt lines i ≡ getD ts i 0
-  step-at i h = ap (λ (l : LiveLine). l .transition .0) (line-at i h)
-
-  moved-at : (i : ℕ) → i < live → getD lines i noLine .moved ≡ setOf maxBases (getD ms i 0)
-  moved-at i h = ap (λ (l : LiveLine). l .moved) (line-at i h)
+  step-at i h = ap (λ (l : LiveLine). l .transition .0) (line-at maxBases (lying live ts keys ms) i h)
 
   pub seen-one : 0 < live → setOf maxBases (getD ms 0 0) ≡ seenTo lines 1
-  seen-one h = sym (moved-at 0 h)
+  seen-one h = sym (moved-at maxBases (lying live ts keys ms) 0 h)
 
   pub seen-more : (i w r : ℕ) → i < live → setOf maxBases w ≡ seenTo lines i → setOf maxBases r ≡ either (setOf maxBases w) (setOf maxBases (getD ms i 0)) → setOf maxBases r ≡ seenTo lines (i + 1)
-  seen-more i w r h e q = q ∙ (λ x. either (e x) (sym (moved-at i h) x)) ∙ ap (seenTo lines) (sym (add-one i))
+  seen-more i w r h e q = q ∙ (λ x. either (e x) (sym (moved-at maxBases (lying live ts keys ms) i h) x)) ∙ ap (seenTo lines) (sym (add-one i))
 
   least-next : (i : ℕ) → 0 < i → leastTo lines i ≡ pick (not (common (seenTo lines i) (getD lines i noLine .moved)) && ltb (stepAt lines i) (stepAt lines (leastTo lines (i - 1)))) i (leastTo lines (i - 1))
   least-next zero h = absurd (let z : ⊥ = omega arith in z)
@@ -44,12 +38,12 @@ module _ (live : ℕ) (ts keys ms : List ℕ) where
       → r ≡ pick (not (common (setOf maxBases w) (setOf maxBases (getD ms i 0))) && ltb (getD ts i 0) (getD ts b 0)) i b → r ≡ leastTo lines (i + 1 - 1)
   least-more i b w r pos h low e s q =
       let k : i + 1 - 1 ≡ i = omega arith in
-      q ∙ (λ x. pick (not (common (s x) (sym (moved-at i h) x)) && ltb (sym (step-at i h) x) (sym (step-at b (omega arith)) x)) i b)
+      q ∙ (λ x. pick (not (common (s x) (sym (moved-at maxBases (lying live ts keys ms) i h) x)) && ltb (sym (step-at i h) x) (sym (step-at b (omega arith)) x)) i b)
       ∙ ap (λ (y : ℕ). pick (not (common (seenTo lines i) (getD lines i noLine .moved)) && ltb (stepAt lines i) (stepAt lines y)) i y) e
       ∙ sym (least-next i pos) ∙ ap (leastTo lines) (sym k)
 
   pub next-is : (i b : ℕ) → i ≡ live → b ≡ leastTo lines (i - 1) → b ≡ nextAt lines
-  next-is i b e q = q ∙ ap (λ (y : ℕ). leastTo lines (y - 1)) (e ∙ sym (length-table live (λ x. asLine maxBases (firingAt ts keys ms x))))
+  next-is i b e q = q ∙ ap (λ (y : ℕ). leastTo lines (y - 1)) (e ∙ sym (lines-length maxBases (lying live ts keys ms)))
 
 pub better-low : (c : Bool) (i b r n : ℕ) → b < i → r ≡ pick c i b → i < n → r < i + 1
 better-low true i b r n h e k = omega arith

@@ -1,20 +1,16 @@
 -- The listing asked of a record: refused by one of 1 to 10, or by the arrays as it is by the lines that it holds.
 -- Assumes nothing.
-use mathlib.Core.Path.{_≡_, refl, sym, _∙_, ap}
+use mathlib.Core.Path.{_≡_, sym, _∙_, ap}
 use mathlib.Core.Bool.{Bool, true, false}
 use mathlib.Core.List.{List, []}
-use Prim.Native.Nat.{ℕ, _<_}
-use native.Mathlib.Omega.{arith}
-use lib.ListN.{length, getD}
+use Prim.Native.Nat.{ℕ}
 use Rattle.net.specs.Limits.{maxBases}
 use Rattle.net.specs.Tests.{pick}
 use Rattle.net.specs.Checks.{clear, first, verdictNumber}
-use Rattle.net.specs.Firing.{inSet}
-use Rattle.net.specs.Journal.{LiveLine, noLine}
-use Rattle.net.proofs.Tables.{length-table, getD-table}
+use Rattle.net.specs.Journal.{LiveLine}
 use Rattle.format.specs.Parts.{basesOf}
-use Rattle.words.proofs.Bits.{wide-at}
-use Rattle.firings.specs.Lines.{firingAt, asLine, linesIn}
+use Rattle.firings.specs.Lines.{linesIn}
+use Rattle.firings.proofs.Lines.{lineAt, wide-line}
 use Rattle.listing.specs.First.{listing}
 use Rattle.listing.specs.Listing.{listingOf, noListing}
 use Rattle.listing.specs.declared.Listing.{Listing}
@@ -43,25 +39,10 @@ module _ (s : List ℕ) (r : Record) where
   )
 
   module _ (S : Sound s r) where
-    at : ℕ → ℕ → LiveLine
-    at n i = asLine n (firingAt (r .firings .transitions) (r .firings .keys) (r .firings .moved) i)
-
     -- sets of as many flags as an array holds have the bases of those of the net
     alike : listing (linesIn maxBases (r .firings)) ≡ listing ls
-    unfolding at
-    alike =
-        let n : ℕ = basesOf s in
-        let live : ℕ = r .firings .live in
-        let long : (k : ℕ) → length (linesIn k (r .firings)) ≡ live = λ k. length-table live (at k) in
-        listing-alike (linesIn maxBases (r .firings)) ls (long maxBases ∙ sym (long n)) (λ i h.
-        let low : i < live = let e = long maxBases in omega arith in
-        let a : getD (linesIn maxBases (r .firings)) i noLine ≡ at maxBases i = getD-table live (at maxBases) i noLine low in
-        let b : getD ls i noLine ≡ at n i = getD-table live (at n) i noLine low in (
-          ap (λ (l : LiveLine). l .transition) a ∙ ap (λ (l : LiveLine). l .transition) (sym b),
-          λ p. ap (λ (l : LiveLine). inSet (l .moved) p) a
-              ∙ wide-at maxBases n (getD (r .firings .moved) i 0) p (few s (r .marking) (r .firings) (r .given) (S .passed)) (sets-low s (r .marking) (r .firings) (r .given) (S .passed) i low)
-              ∙ ap (λ (l : LiveLine). inSet (l .moved) p) (sym b),
-        ))
+    alike = listing-alike (r .firings .live) (lineAt maxBases (r .firings)) (lineAt (basesOf s) (r .firings)) (λ i h.
+        wide-line maxBases (basesOf s) (r .firings) (few s (r .marking) (r .firings) (r .given) (S .passed)) i (sets-low s (r .marking) (r .firings) (r .given) (S .passed) i h))
 
     pub listing-asked : (x : Listing) → x ≡ listingOf (listing (linesIn maxBases (r .firings))) → (x ≡ listingFor s r) × (verdictNumber (x .answer) ≡ first (recordChecks s r []))
     listing-asked x q =

@@ -18,7 +18,7 @@ use Rattle.net.proofs.Tests.{or-e, pick-case, fails}
 use Rattle.net.proofs.Keys.{Up, common-i, common-e}
 use Rattle.words.specs.Sets.{either}
 use Rattle.words.proofs.Bits.{either-at}
-use Rattle.spread.specs.Depends.{Depends, itself, through, movedSets, spread, others, spreadOf, remaining}
+use Rattle.spread.specs.Depends.{Depends, itself, through, spread, others, spreadOf, remaining}
 use Rattle.spread.proofs.Sets.{either-l, either-r, common-no}
 use Rattle.spread.proofs.Left.{others-mem, rest-mem}
 
@@ -52,18 +52,18 @@ kept-free (l ∷ ys) m u x y h i g lt = go (common m (l .moved)) h i g (λ k a b
         absurd (let z : ⊥ = omega arith in z)
     go false (inr h) (inr i) g ih = ih m h i (λ n. g (inr n))
 
-spread-grows : (ys : List LiveLine) (m : List Bool) (p : ℕ) → inSet m p ≡ true → inSet (spread m (movedSets ys)) p ≡ true
+spread-grows : (ys : List LiveLine) (m : List Bool) (p : ℕ) → inSet m p ≡ true → inSet (spread m ys) p ≡ true
 spread-grows [] m p e = e
-spread-grows (l ∷ ys) m p e = pick-case (λ (s : List Bool). inSet s p ≡ true) (common m (l .moved)) (spread (either m (l .moved)) (movedSets ys)) (spread m (movedSets ys))
+spread-grows (l ∷ ys) m p e = pick-case (λ (s : List Bool). inSet s p ≡ true) (common m (l .moved)) (spread (either m (l .moved)) ys) (spread m ys)
     (λ _. spread-grows ys (either m (l .moved)) p (either-l m (l .moved) p e)) (λ _. spread-grows ys m p e)
 
 -- the bases of a line that goes are in the set at the end
-gone-inside : (ys : List LiveLine) (m : List Bool) (y : LiveLine) → Mem y ys → (Mem y (others m ys) → ⊥) → (p : ℕ) → inSet (y .moved) p ≡ true → inSet (spread m (movedSets ys)) p ≡ true
+gone-inside : (ys : List LiveLine) (m : List Bool) (y : LiveLine) → Mem y ys → (Mem y (others m ys) → ⊥) → (p : ℕ) → inSet (y .moved) p ≡ true → inSet (spread m ys) p ≡ true
 gone-inside [] m y i g p e = absurd i
 gone-inside (l ∷ ys) m y i g p e = go (common m (l .moved)) i g (λ k a b. gone-inside ys k y a b p e)
   where
     go : (c : Bool) → Mem y (l ∷ ys) → (Mem y (pick c (others (either m (l .moved)) ys) (l ∷ others m ys)) → ⊥)
-        → ((k : List Bool) → Mem y ys → (Mem y (others k ys) → ⊥) → inSet (spread k (movedSets ys)) p ≡ true) → inSet (pick c (spread (either m (l .moved)) (movedSets ys)) (spread m (movedSets ys))) p ≡ true
+        → ((k : List Bool) → Mem y ys → (Mem y (others k ys) → ⊥) → inSet (spread k ys) p ≡ true) → inSet (pick c (spread (either m (l .moved)) ys) (spread m ys)) p ≡ true
     go true (inl q) g ih = spread-grows ys (either m (l .moved)) p (either-r m (l .moved) p (ap (λ (z : LiveLine). inSet (z .moved) p) (sym q) ∙ e))
     go true (inr i) g ih = ih (either m (l .moved)) i g
     go false (inl q) g ih = absurd (g (inl q))
@@ -93,15 +93,15 @@ module _ (all : List LiveLine) (l₀ : LiveLine) where
 
   reach : (ys : List LiveLine) (m : List Bool) → Up ys → ((y : LiveLine) → Mem y ys → Mem y all) → Source m ys
       → ((x : LiveLine) → Mem x ys → Mem x (others m ys) ⊎ Depends all l₀ x)
-      × ((p : ℕ) → inSet (spread m (movedSets ys)) p ≡ true → (y : LiveLine) × Mem y all × Depends all l₀ y × (inSet (y .moved) p ≡ true))
+      × ((p : ℕ) → inSet (spread m ys) p ≡ true → (y : LiveLine) × Mem y all × Depends all l₀ y × (inSet (y .moved) p ≡ true))
   reach [] m u sub S = ((λ x h. absurd h), λ p e. let (y, n, d, a, f) = S p e in (y, n, d, a))
   reach (l ∷ ys) m u sub S = go (common m (l .moved)) refl (λ k S′. reach ys k (u .1) (λ y n. sub y (inr n)) S′)
     where
       Got : List Bool → List LiveLine → List LiveLine → Type 0
       Got s os zs = ((x : LiveLine) → Mem x zs → Mem x os ⊎ Depends all l₀ x) × ((p : ℕ) → inSet s p ≡ true → (y : LiveLine) × Mem y all × Depends all l₀ y × (inSet (y .moved) p ≡ true))
 
-      go : (c : Bool) → common m (l .moved) ≡ c → ((k : List Bool) → Source k ys → Got (spread k (movedSets ys)) (others k ys) ys)
-          → Got (pick c (spread (either m (l .moved)) (movedSets ys)) (spread m (movedSets ys))) (pick c (others (either m (l .moved)) ys) (l ∷ others m ys)) (l ∷ ys)
+      go : (c : Bool) → common m (l .moved) ≡ c → ((k : List Bool) → Source k ys → Got (spread k ys) (others k ys) ys)
+          → Got (pick c (spread (either m (l .moved)) ys) (spread m ys)) (pick c (others (either m (l .moved)) ys) (l ∷ others m ys)) (l ∷ ys)
       go true c ih =
           let (D, S′) = source-next m l ys u (sub l (inl refl)) S c in
           let (a, b) = ih (either m (l .moved)) S′ in
@@ -183,10 +183,10 @@ module _ (xs ys : List LiveLine) (l : LiveLine) (u : Up (xs ++ l ∷ ys)) where
   gone-all (through {k = k} {m = x} d m lt c) g = gone-next k x (gone-all d g) m lt c
 
   reached : ((x : LiveLine) → Mem x ys → Mem x (others (l .moved) ys) ⊎ Depends (xs ++ l ∷ ys) l x)
-      × ((p : ℕ) → inSet (spread (l .moved) (movedSets ys)) p ≡ true → (y : LiveLine) × Mem y (xs ++ l ∷ ys) × Depends (xs ++ l ∷ ys) l y × (inSet (y .moved) p ≡ true))
+      × ((p : ℕ) → inSet (spread (l .moved) ys) p ≡ true → (y : LiveLine) × Mem y (xs ++ l ∷ ys) × Depends (xs ++ l ∷ ys) l y × (inSet (y .moved) p ≡ true))
   reached = reach (xs ++ l ∷ ys) l ys (l .moved) (up-part xs u .1) (λ y n. mem-aft xs (l ∷ ys) y (inr n)) (λ p e. (l, mem-mid l xs ys, itself, e, up-part xs u .0))
 
-  pub facts : Facts (xs ++ l ∷ ys) l (spread (l .moved) (movedSets ys)) (xs ++ others (l .moved) ys)
+  pub facts : Facts (xs ++ l ∷ ys) l (spread (l .moved) ys) (xs ++ others (l .moved) ys)
   facts = record {
     inside = reached .1;
     covers = λ p m d e. covers′ p m (gone-all d (inl refl)) e;
@@ -194,7 +194,7 @@ module _ (xs ys : List LiveLine) (l : LiveLine) (u : Up (xs ++ l ∷ ys)) where
     splits = λ m h. splits′ m (mem-append xs (l ∷ ys) m h);
   }
     where
-      covers′ : (p : ℕ) (m : LiveLine) → Gone m → inSet (m .moved) p ≡ true → inSet (spread (l .moved) (movedSets ys)) p ≡ true
+      covers′ : (p : ℕ) (m : LiveLine) → Gone m → inSet (m .moved) p ≡ true → inSet (spread (l .moved) ys) p ≡ true
       covers′ p m (inl q) e = spread-grows ys (l .moved) p (ap (λ (z : LiveLine). inSet (z .moved) p) (sym q) ∙ e)
       covers′ p m (inr (i, g)) e = gone-inside ys (l .moved) m i g p e
 
@@ -209,7 +209,7 @@ module _ (xs ys : List LiveLine) (l : LiveLine) (u : Up (xs ++ l ∷ ys)) where
       splits′ m (inr (inr n)) = elim (reached .0 m n) [ inl o ↦ inl (mem-aft xs (others (l .moved) ys) m o) | inr e ↦ inr e ]
 
 module _ (k : Key) (l : LiveLine) (ys : List LiveLine) (e : l .key .0 ≡ k .0) where
-  pub spread-split : (xs : List LiveLine) → Up (xs ++ l ∷ ys) → spreadOf k (xs ++ l ∷ ys) ≡ spread (l .moved) (movedSets ys)
+  pub spread-split : (xs : List LiveLine) → Up (xs ++ l ∷ ys) → spreadOf k (xs ++ l ∷ ys) ≡ spread (l .moved) ys
   spread-split [] u = rw (eq-eqb (l .key .0) (k .0) e)
   spread-split (x ∷ xs) u = let a = u .0 l (mem-mid l xs ys) in rw (ne-eqb (x .key .0) (k .0) (λ q. omega arith)) (spread-split xs (u .1))
 

@@ -15,7 +15,7 @@ use Rattle.net.specs.declared.Key.{Key}
 use Rattle.net.proofs.Keys.{Up}
 use Rattle.words.specs.Sets.{either}
 use Rattle.words.proofs.Bits.{either-at}
-use Rattle.spread.specs.Depends.{movedSets, spread, others, spreadOf, remaining}
+use Rattle.spread.specs.Depends.{spread, others, spreadOf, remaining}
 use Rattle.causal.specs.Runs.{Run, AgreeOff, Laws}
 use Rattle.causal.proofs.Reorderings.{independent-sym, reordering-same}
 use Rattle.causal.proofs.Runs.{run-split, run-join, run-good}
@@ -46,14 +46,14 @@ module _ (net : Net) (ok : netRule net ≡ true) where
   L = laws net (fits net ok)
 
   others-run : (m : List Bool) (ls : List LiveLine) (a b a′ : Marking) → Good net a → Good net a′ → Run (Fires net) a ls b → AgreeOff inSet view m a a′
-      → (b′ : Marking) × Run (Fires net) a′ (others m ls) b′ × AgreeOff inSet view (spread m (movedSets ls)) b b′
+      → (b′ : Marking) × Run (Fires net) a′ (others m ls) b′ × AgreeOff inSet view (spread m ls) b b′
   others-run m [] a b a′ g g′ e o = (a′, refl, rw (← e) o)
   others-run m (l ∷ ls) a b a′ g g′ r o = go (common m (l .moved)) refl (λ k z gz q. others-run k ls (r .0) b z (L .good g (r .1)) gz (r .2) q)
     where
       go : (c : Bool) → common m (l .moved) ≡ c
-          → ((k : List Bool) (z : Marking) → Good net z → AgreeOff inSet view k (r .0) z → (b′ : Marking) × Run (Fires net) z (others k ls) b′ × AgreeOff inSet view (spread k (movedSets ls)) b b′)
+          → ((k : List Bool) (z : Marking) → Good net z → AgreeOff inSet view k (r .0) z → (b′ : Marking) × Run (Fires net) z (others k ls) b′ × AgreeOff inSet view (spread k ls) b b′)
           → (b′ : Marking) × Run (Fires net) a′ (pick c (others (either m (l .moved)) ls) (l ∷ others m ls)) b′
-          × AgreeOff inSet view (pick c (spread (either m (l .moved)) (movedSets ls)) (spread m (movedSets ls))) b b′
+          × AgreeOff inSet view (pick c (spread (either m (l .moved)) ls) (spread m ls)) b b′
       go true e ih = ih (either m (l .moved)) a′ g′ (λ p q.
           let q′ : (inSet m p || inSet (l .moved) p) ≡ false = sym (either-at m (l .moved) p) ∙ q in
           sym (L .frame g (r .1) p (or-no-r (inSet m p) (inSet (l .moved) p) q′)) ∙ o p (or-no-l (inSet m p) (inSet (l .moved) p) q′))
@@ -65,7 +65,7 @@ module _ (net : Net) (ok : netRule net ≡ true) where
 
   -- The lines but l and what depends on it run forward, and off what l spreads to the end is as it is now.
   slip-run : (xs ys : List LiveLine) (l : LiveLine) (s z : Marking) → Good net s → Run (Fires net) s (xs ++ l ∷ ys) z
-      → (z′ : Marking) × Run (Fires net) s (xs ++ others (l .moved) ys) z′ × AgreeOff inSet view (spread (l .moved) (movedSets ys)) z z′
+      → (z′ : Marking) × Run (Fires net) s (xs ++ others (l .moved) ys) z′ × AgreeOff inSet view (spread (l .moved) ys) z z′
   slip-run xs ys l s z g r =
       let (y, r₁, r₂) = run-split (Fires net) xs (l ∷ ys) s z r in
       let gy : Good net y = run-good inSet view (Good net) (Fires net) (λ s a m. undo (net .bases) (arcsOf net a) m s) L xs s y g r₁ in
@@ -87,7 +87,7 @@ module _ (net : Net) (ok : netRule net ≡ true) (j : Journal) (H : Held net j) 
   slip-of : (l : LiveLine) (xs ys : List LiveLine) → lineOf k (j .lines) ≡ l → j .lines ≡ xs ++ l ∷ ys → l .key .0 ≡ k .0 → JournalSlip net j k
   slip-of l xs ys is q e =
       let u : Up (xs ++ l ∷ ys) = rw q at (H .up) in
-      let S : spreadOf k (j .lines) ≡ spread (l .moved) (movedSets ys) = ap (spreadOf k) q ∙ spread-split k l ys e xs u in
+      let S : spreadOf k (j .lines) ≡ spread (l .moved) ys = ap (spreadOf k) q ∙ spread-split k l ys e xs u in
       let R : remaining k (j .lines) ≡ xs ++ others (l .moved) ys = ap (remaining k) q ∙ remaining-split k l ys e xs u in
       let F : Facts (j .lines) (lineOf k (j .lines)) (spreadOf k (j .lines)) (remaining k (j .lines)) = turned l xs ys is q S R (facts xs ys l u) in
       let (z, r, o) = slip-run net ok xs ys l (net .start) (j .marking) (start-good net ok) (rw q at (H .run)) in
@@ -115,8 +115,8 @@ module _ (net : Net) (ok : netRule net ≡ true) (j : Journal) (H : Held net j) 
         bonds = λ p b h. (sym (seen-first (j .marking) z p (o p (rw S at h)) b), sym (seen-second (j .marking) z p (o p (rw S at h)) b));
       }
     where
-      turned : (l : LiveLine) (xs ys : List LiveLine) → lineOf k (j .lines) ≡ l → j .lines ≡ xs ++ l ∷ ys → spreadOf k (j .lines) ≡ spread (l .moved) (movedSets ys) → remaining k (j .lines) ≡ xs ++ others (l .moved) ys
-          → Facts (xs ++ l ∷ ys) l (spread (l .moved) (movedSets ys)) (xs ++ others (l .moved) ys) → Facts (j .lines) (lineOf k (j .lines)) (spreadOf k (j .lines)) (remaining k (j .lines))
+      turned : (l : LiveLine) (xs ys : List LiveLine) → lineOf k (j .lines) ≡ l → j .lines ≡ xs ++ l ∷ ys → spreadOf k (j .lines) ≡ spread (l .moved) ys → remaining k (j .lines) ≡ xs ++ others (l .moved) ys
+          → Facts (xs ++ l ∷ ys) l (spread (l .moved) ys) (xs ++ others (l .moved) ys) → Facts (j .lines) (lineOf k (j .lines)) (spreadOf k (j .lines)) (remaining k (j .lines))
       turned l xs ys is q S R F = rw (is, S, R) (rw q F)
 
   pub slip : isLive k (j .lines) ≡ true → JournalSlip net j k

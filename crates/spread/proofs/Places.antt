@@ -1,78 +1,135 @@
--- Where the firing of a key spreads, by its place among the lines; and that sets of more flags, none of them set, spread alike.
--- Assumes nothing.
-use mathlib.Core.Path.{_≡_, sym, _∙_, ap}
+-- Where a firing spreads: over one line more, as the loop over the arrays adds it; by the place of its key; and that sets of more
+-- flags, none of them set, spread alike. Assumes nothing.
+use mathlib.Core.Path.{_≡_, refl, sym, _∙_, ap}
 use mathlib.Core.Bool.{Bool, true, false, _||_}
-use mathlib.Core.List.{List}
-use Prim.Native.Nat.{ℕ, zero, suc, _+_, _-_, _<_}
+use mathlib.Core.List.{List, [], _∷_}
+use Prim.Native.Nat.{ℕ, zero, suc, _+_, _<_, _≤_}
 use native.Mathlib.Omega.{arith}
+use native.Mathlib.Numerals.{add-one}
+use lib.ListN.{length, getD, drop, drop-of-length-le}
+use lib.Seq.{drop-cons}
+use Rattle.net.specs.Limits.{maxBases}
 use Rattle.net.specs.Tests.{pick, table}
 use Rattle.net.specs.Firing.{inSet}
-use Rattle.net.specs.Journal.{LiveLine, sameKey, lineKeys, common}
+use Rattle.net.specs.Journal.{LiveLine, noLine, sameKey, lineKeys, isLive, common}
 use Rattle.net.specs.declared.Key.{Key}
-use Rattle.net.proofs.Tests.{same-test}
 use Rattle.net.proofs.Tables.{table-cong}
-use Rattle.net.proofs.Keys.{common-i, common-e}
-use Rattle.bonds.proofs.Fill.{map-table}
-use Rattle.words.specs.Sets.{either}
-use Rattle.firings.specs.Search.{indexOf}
-use Rattle.spread.specs.Depends.{movedSets, spread, spreadOf}
-use Rattle.words.proofs.Bits.{either-at}
+use Rattle.words.specs.Sets.{setOf, either}
+use Rattle.firings.specs.Lines.{lying, linesIn}
+use Rattle.firings.specs.Search.{keysIn, indexOf}
+use Rattle.firings.proofs.Search.{keys-of-lines}
+use Rattle.firings.proofs.Lines.{lines-length, moved-at, Alike, common-alike, either-alike, SameLine}
+use Rattle.net.specs.declared.Verdict.the-variants.{Accepted}
+use Rattle.spread.specs.Depends.{spread, spreadFrom, spreadOf}
+use Rattle.spread.specs.Spread.{told, notTold, spreadAmong}
+use Rattle.spread.specs.declared.Spread.{Spread}
+
+-- ---- one line more
+
+spread-next : (m : List Bool) (l : LiveLine) (ls : List LiveLine) → spread m (l ∷ ls) ≡ spread (pick (common m (l .moved)) (either m (l .moved)) m) ls
+spread-next m l ls = go (common m (l .moved))
+  where
+    go : (c : Bool) → pick c (spread (either m (l .moved)) ls) (spread m ls) ≡ spread (pick c (either m (l .moved)) m) ls
+    go true = refl
+    go false = refl
+
+module _ (live : ℕ) (ts keys ms : List ℕ) where
+  abbrev pub lines : List LiveLine
+  lines = linesIn maxBases (lying live ts keys ms)
+
+  -- the loop over the lines after the one at i: it begins, goes on and ends
+  pub from-one : (i : ℕ) → i < live → spread (setOf maxBases (getD ms i 0)) (drop (i + 1) lines) ≡ spreadFrom i lines
+  from-one i h = λ x. spread (sym (moved-at maxBases (lying live ts keys ms) i h) x) (drop (add-one i x) lines)
+
+  pub from-more : (j : ℕ) → j < live → (m r s : List Bool) → spread m (drop j lines) ≡ s
+      → r ≡ pick (common m (setOf maxBases (getD ms j 0))) (either m (setOf maxBases (getD ms j 0))) m → spread r (drop (j + 1) lines) ≡ s
+  from-more j h m r s e q =
+      let size : j < length lines = rw (lines-length maxBases (lying live ts keys ms)) h in
+      let at : setOf maxBases (getD ms j 0) ≡ getD lines j noLine .moved = sym (moved-at maxBases (lying live ts keys ms) j h) in
+      (λ x. spread ((q ∙ ap (λ (n : List Bool). pick (common m n) (either m n) m) at) x) (drop (add-one j x) lines))
+      ∙ sym (spread-next m (getD lines j noLine) (drop (suc j) lines)) ∙ ap (spread m) (sym (drop-cons lines j noLine size)) ∙ e
+
+  pub from-end : (j : ℕ) → live ≤ j → (m s : List Bool) → spread m (drop j lines) ≡ s → m ≡ s
+  from-end j h m s e =
+      let size : length lines ≤ j = rw (lines-length maxBases (lying live ts keys ms)) h in
+      ap (spread m) (sym (drop-of-length-le lines size)) ∙ e
 
 -- ---- by the place of the key
 
-same-table : {X : Type 0} (a b : ℕ) (f g : ℕ → X) → a ≡ b → ((j : ℕ) → f j ≡ g j) → table a f ≡ table b g
-same-table a b f g e h = table-cong a f g (λ j _. h j) ∙ ap (λ (n : ℕ). table n g) e
-
--- the sets of the lines after the one at i
-abbrev after : (ℕ → LiveLine) → ℕ → ℕ → List (List Bool)
-after f n i = table (n - (i + 1)) (λ j. f (i + 1 + j) .moved)
-
-pub spread-found : (k : Key) (n : ℕ) (f : ℕ → LiveLine) → indexOf k (lineKeys (table n f)) < n
-    → spreadOf k (table n f) ≡ spread (f (indexOf k (lineKeys (table n f))) .moved) (after f n (indexOf k (lineKeys (table n f))))
-spread-found k zero f h = absurd (let z : ⊥ = omega arith in z)
-spread-found k (suc n) f h = go (sameKey (f zero .key) k) h (spread-found k n (λ j. f (suc j)))
+found : (k : Key) (ls : List LiveLine) → indexOf k (lineKeys ls) < length ls → (isLive k ls ≡ true) × (spreadOf k ls ≡ spreadFrom (indexOf k (lineKeys ls)) ls)
+found k [] h = absurd (let z : ⊥ = omega arith in z)
+found k (l ∷ ls) h = go (sameKey (l .key) k) h (found k ls)
   where
-    rest : List LiveLine
-    rest = table n (λ j. f (suc j))
+    i : ℕ
+    i = indexOf k (lineKeys ls)
 
-    to : ℕ → List Bool
-    to i = spread (f i .moved) (after f (suc n) i)
+    go : (c : Bool) → pick c 0 (suc i) < suc (length ls) → (i < length ls → (isLive k ls ≡ true) × (spreadOf k ls ≡ spreadFrom i ls))
+        → ((c || isLive k ls) ≡ true) × (pick c (spread (l .moved) ls) (spreadOf k ls) ≡ spreadFrom (pick c 0 (suc i)) (l ∷ ls))
+    go true h ih = (refl, refl)
+    go false h ih = ih (omega arith)
 
-    go : (c : Bool) → pick c 0 (suc (indexOf k (lineKeys rest))) < suc n
-        → (indexOf k (lineKeys rest) < n → spreadOf k rest ≡ spread (f (suc (indexOf k (lineKeys rest))) .moved) (after (λ j. f (suc j)) n (indexOf k (lineKeys rest))))
-        → pick c (spread (f zero .moved) (movedSets rest)) (spreadOf k rest) ≡ to (pick c 0 (suc (indexOf k (lineKeys rest))))
-    go true h ih = ap (spread (f zero .moved)) (map-table (λ (l : LiveLine). l .moved) n (λ j. f (suc j))
-        ∙ same-table n (suc n - (0 + 1)) (λ j. f (suc j) .moved) (λ j. f (0 + 1 + j) .moved) (omega arith) (λ j. let e : suc j ≡ 0 + 1 + j = omega arith in ap (λ (x : ℕ). f x .moved) e))
-    go false h ih =
-        let i : ℕ = indexOf k (lineKeys rest) in
-        ih (omega arith) ∙ ap (spread (f (suc i) .moved)) (same-table (n - (i + 1)) (suc n - (suc i + 1)) (λ j. f (suc (i + 1 + j)) .moved) (λ j. f (suc i + 1 + j) .moved)
-        (omega arith) (λ j. let e : suc (i + 1 + j) ≡ suc i + 1 + j = omega arith in ap (λ (x : ℕ). f x .moved) e))
-
--- ---- the same bases, in lists of other lengths
-
-abbrev pub Alike : List Bool → List Bool → Type 0
-Alike a b = (p : ℕ) → inSet a p ≡ inSet b p
-
-pub common-alike : (a b m n : List Bool) → Alike a b → Alike m n → common a m ≡ common b n
-common-alike a b m n h k = same-test (common a m) (common b n) (one a b m n h k) (one b a n m (λ p. sym (h p)) (λ p. sym (k p)))
+missing : (k : Key) (ls : List LiveLine) → length ls ≤ indexOf k (lineKeys ls) → isLive k ls ≡ false
+missing k [] h = refl
+missing k (l ∷ ls) h = go (sameKey (l .key) k) h (missing k ls)
   where
-    one : (a b m n : List Bool) → Alike a b → Alike m n → common a m ≡ true → common b n ≡ true
-    one a b m n h k c = let (p, x, y) = common-e a m c in common-i b n p (sym (h p) ∙ x) (sym (k p) ∙ y)
+    go : (c : Bool) → suc (length ls) ≤ pick c 0 (suc (indexOf k (lineKeys ls))) → (length ls ≤ indexOf k (lineKeys ls) → isLive k ls ≡ false) → (c || isLive k ls) ≡ false
+    go true h ih = absurd (let z : ⊥ = omega arith in z)
+    go false h ih = ih (omega arith)
 
-pub either-alike : (a b m n : List Bool) → Alike a b → Alike m n → Alike (either a m) (either b n)
-either-alike a b m n h k p = either-at a m p ∙ (λ i. h p i || k p i) ∙ sym (either-at b n p)
+-- the key's place among the keys of the arrays
+module _ (live : ℕ) (ts keys ms : List ℕ) (k : Key) (i : ℕ) (e : i ≡ indexOf k (keysIn live keys)) (x : Spread) where
+  place : i ≡ indexOf k (lineKeys (lines live ts keys ms))
+  place = e ∙ ap (indexOf k) (keys-of-lines maxBases (lying live ts keys ms))
 
-pub spread-alike : (k : ℕ) (f g : ℕ → List Bool) → ((j : ℕ) → j < k → Alike (f j) (g j)) → (a b : List Bool) → Alike a b → Alike (spread a (table k f)) (spread b (table k g))
+  pub told-live : i < live → x ≡ told (spreadFrom i (lines live ts keys ms)) → x ≡ spreadAmong k (lines live ts keys ms)
+  told-live h q =
+      let size = lines-length maxBases (lying live ts keys ms) in
+      let at = place in
+      let (a, b) = found k (lines live ts keys ms) (omega arith) in
+      q ∙ ap told (ap (λ (j : ℕ). spreadFrom j (lines live ts keys ms)) at ∙ sym b) ∙ ap (λ (c : Bool). pick c (told (spreadOf k (lines live ts keys ms))) (notTold 19)) (sym a)
+
+  pub told-missing : live ≤ i → x ≡ notTold 19 → x ≡ spreadAmong k (lines live ts keys ms)
+  told-missing h q =
+      let size = lines-length maxBases (lying live ts keys ms) in
+      let at = place in
+      q ∙ ap (λ (c : Bool). pick c (told (spreadOf k (lines live ts keys ms))) (notTold 19)) (sym (missing k (lines live ts keys ms) (omega arith)))
+
+-- ---- lines of other numbers of flags
+
+pick-alike : (c d : Bool) → c ≡ d → (x y u v : List Bool) → Alike x y → Alike u v → Alike (pick c x u) (pick d y v)
+pick-alike c d q x y u v s t = rw q (side d)
+  where
+    side : (d : Bool) → Alike (pick d x u) (pick d y v)
+    side true = s
+    side false = t
+
+spread-alike : (n : ℕ) (f g : ℕ → LiveLine) → ((i : ℕ) → i < n → SameLine (f i) (g i)) → (a b : List Bool) → Alike a b → Alike (spread a (table n f)) (spread b (table n g))
 spread-alike zero f g h a b e = e
-spread-alike (suc k) f g h a b e =
-    let ih : (x y : List Bool) → Alike x y → Alike (spread x (table k (λ j. f (suc j)))) (spread y (table k (λ j. g (suc j)))) =
-    λ x y q. spread-alike k (λ j. f (suc j)) (λ j. g (suc j)) (λ j u. h (suc j) (omega arith)) x y q in
-    go (common a (f zero)) (common b (g zero)) (common-alike a b (f zero) (g zero) e (h zero (omega arith))) _ _ _ _
-    (ih (either a (f zero)) (either b (g zero)) (either-alike a b (f zero) (g zero) e (h zero (omega arith)))) (ih a b e)
-  where
-    side : (d : Bool) (x y u v : List Bool) → Alike x y → Alike u v → Alike (pick d x u) (pick d y v)
-    side true x y u v s t = s
-    side false x y u v s t = t
+spread-alike (suc n) f g h a b e =
+    let m : Alike (f zero .moved) (g zero .moved) = h zero (omega arith) .moved in
+    let ih : (x y : List Bool) → Alike x y → Alike (spread x (table n (λ i. f (suc i)))) (spread y (table n (λ i. g (suc i)))) =
+    spread-alike n (λ i. f (suc i)) (λ i. g (suc i)) (λ i u. h (suc i) (omega arith)) in
+    pick-alike (common a (f zero .moved)) (common b (g zero .moved)) (common-alike a b (f zero .moved) (g zero .moved) e m) _ _ _ _
+    (ih (either a (f zero .moved)) (either b (g zero .moved)) (either-alike a b (f zero .moved) (g zero .moved) e m)) (ih a b e)
 
-    go : (c d : Bool) → c ≡ d → (x y u v : List Bool) → Alike x y → Alike u v → Alike (pick c x u) (pick d y v)
-    go c d q x y u v s t = rw q (side d x y u v s t)
+of-alike : (k : Key) (n : ℕ) (f g : ℕ → LiveLine) → ((i : ℕ) → i < n → SameLine (f i) (g i)) → Alike (spreadOf k (table n f)) (spreadOf k (table n g))
+of-alike k zero f g h = λ p. refl
+of-alike k (suc n) f g h =
+    let rest : (i : ℕ) → i < n → SameLine (f (suc i)) (g (suc i)) = λ i u. h (suc i) (omega arith) in
+    let z : SameLine (f zero) (g zero) = h zero (omega arith) in
+    pick-alike (sameKey (f zero .key) k) (sameKey (g zero .key) k) (ap (λ (j : Key). sameKey j k) (z .key)) _ _ _ _
+    (spread-alike n (λ i. f (suc i)) (λ i. g (suc i)) rest (f zero .moved) (g zero .moved) (z .moved)) (of-alike k n (λ i. f (suc i)) (λ i. g (suc i)) rest)
+
+live-alike : (k : Key) (n : ℕ) (f g : ℕ → LiveLine) → ((i : ℕ) → i < n → SameLine (f i) (g i)) → isLive k (table n f) ≡ isLive k (table n g)
+live-alike k zero f g h = refl
+live-alike k (suc n) f g h =
+    let e = h zero (omega arith) .key in
+    let r = live-alike k n (λ i. f (suc i)) (λ i. g (suc i)) (λ i u. h (suc i) (omega arith)) in
+    λ x. sameKey (e x) k || r x
+
+-- the same is told of them
+pub among-alike : (k : Key) (n : ℕ) (f g : ℕ → LiveLine) → ((i : ℕ) → i < n → SameLine (f i) (g i)) → spreadAmong k (table n f) ≡ spreadAmong k (table n g)
+among-alike k n f g h =
+    let flags : table maxBases (inSet (spreadOf k (table n f))) ≡ table maxBases (inSet (spreadOf k (table n g))) =
+    table-cong maxBases (inSet (spreadOf k (table n f))) (inSet (spreadOf k (table n g))) (λ p _. of-alike k n f g h p) in
+    λ x. pick (live-alike k n f g h x) (record { answer = Accepted; parts = flags x }) (notTold 19)

@@ -2,11 +2,12 @@
 -- Definitions only. That what is computed is the chain is a law (proofs/Chains).
 use mathlib.Core.Path.{_≡_}
 use mathlib.Core.Bool.{Bool, true}
-use mathlib.Core.List.{List, [], _∷_, map}
-use Prim.Native.Nat.{_<_}
+use mathlib.Core.List.{List, [], _∷_}
+use Prim.Native.Nat.{ℕ, suc, _<_}
+use lib.ListN.{getD, drop}
 use Rattle.causal.specs.Lists.{Mem}
 use Rattle.net.specs.Tests.{pick}
-use Rattle.net.specs.Journal.{LiveLine, sameKey, common}
+use Rattle.net.specs.Journal.{LiveLine, noLine, sameKey, common}
 use Rattle.net.specs.declared.Key.{Key}
 use Rattle.words.specs.Sets.{either}
 
@@ -18,25 +19,25 @@ pub data Depends (ls : List LiveLine) (l : LiveLine) : LiveLine → Type 0 where
 
 -- ---- As it is computed: one pass over the lines after the given one
 
--- the moved bases of lines, in their order
-abbrev pub movedSets : List LiveLine → List (List Bool)
-movedSets ls = map (λ (l : LiveLine). l .moved) ls
-
--- A set spreads over others, one after the other: one that has a base of it is added to it, ..
-abbrev pub spread : List Bool → List (List Bool) → List Bool
+-- A set spreads over lines, one after the other: what a line moved that has a base of it is added to it, ..
+abbrev pub spread : List Bool → List LiveLine → List Bool
 spread m [] = m
-spread m (n ∷ ns) = pick (common m n) (spread (either m n) ns) (spread m ns)
+spread m (l ∷ ls) = pick (common m (l .moved)) (spread (either m (l .moved)) ls) (spread m ls)
 
 -- .. and a line that has none is left.
 abbrev pub others : List Bool → List LiveLine → List LiveLine
 others m [] = []
 others m (l ∷ ls) = pick (common m (l .moved)) (others (either m (l .moved)) ls) (l ∷ others m ls)
 
+-- where the line at i spreads: over those after it
+abbrev pub spreadFrom : ℕ → List LiveLine → List Bool
+spreadFrom i ls = spread (getD ls i noLine .moved) (drop (suc i) ls)
+
 -- The bases to which the firing of a live key spreads: those that it moved, or that a firing moved that depends on it (02, T-08).
 -- None where the key is not live.
 abbrev pub spreadOf : Key → List LiveLine → List Bool
 spreadOf k [] = []
-spreadOf k (l ∷ ls) = pick (sameKey (l .key) k) (spread (l .moved) (movedSets ls)) (spreadOf k ls)
+spreadOf k (l ∷ ls) = pick (sameKey (l .key) k) (spread (l .moved) ls) (spreadOf k ls)
 
 -- the lines that remain: all but that firing and those that depend on it
 abbrev pub remaining : Key → List LiveLine → List LiveLine

@@ -2,14 +2,17 @@
 // The session's call checks the sheet and the record first.
 ghost use mathlib.Core.Path.{_≡_};
 ghost use mathlib.Core.Bool.{true};
-ghost use Prim.Native.Nat.{_<_, _≤_};
+ghost use mathlib.Core.List.{List};
+ghost use Prim.Native.Nat.{ℕ, _<_, _≤_};
 ghost use Rattle.net.specs.Limits.{maxBases, maxLive};
 ghost use Rattle.net.specs.Tests.{pick};
 ghost use Rattle.net.specs.Journal.{common};
 ghost use Rattle.words.specs.Sets.{setOf, either};
+ghost use Rattle.firings.specs.Lines.{lying, linesIn};
 ghost use Rattle.firings.specs.Search.{keysIn};
 ghost use Rattle.firings.specs.Form.{climbs};
-ghost use Rattle.spread.specs.Spread.{told, notTold, spreadAt, spreadIn};
+ghost use Rattle.spread.specs.Depends.{spreadFrom};
+ghost use Rattle.spread.specs.Spread.{told, notTold, spreadAmong};
 use firings::index_of;
 use net::Key;
 use net::MAX_BASES;
@@ -40,7 +43,8 @@ fn wider(set: u64, moved: u64) -> u64
 // Where the live firing at i spreads. `spread_of` has found it among the live ones.
 fn spread_at(moved: &[u64; MAX_LIVE], live: usize, i: usize) -> u64
     requires { ⌜ (i < live) × (live ≤ maxLive) ⌝ }
-    ensures { λ r. ⌜ setOf maxBases r ≡ spreadAt live (now (moved .entry)) i ⌝ }
+    ensures { λ r. ⌜
+        ((ts keys : List ℕ) → setOf maxBases r ≡ spreadFrom i (linesIn maxBases (lying live ts keys (now (moved .entry))))) ⌝ }
 {
     let mut set = moved[i];
     let mut j = i + 1;
@@ -85,7 +89,8 @@ pub fn spread_of<'a>(
     key: Key,
 ) -> Spread
     requires { ⌜ (live ≤ maxLive) × (climbs 0 (keysIn live (now keys)) ≡ true) ⌝ }
-    ensures { λ r. ⌜ r ≡ spreadIn live (now (keys .entry)) (now (moved .entry)) key ⌝ }
+    ensures { λ r. ⌜
+        ((ts : List ℕ) → r ≡ spreadAmong key (linesIn maxBases (lying live ts (now (keys .entry)) (now (moved .entry))))) ⌝ }
 {
     let i = index_of(keys, live, key);
     if live <= i {

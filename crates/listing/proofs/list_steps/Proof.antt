@@ -10,10 +10,10 @@ use Rattle.net.specs.Limits.{maxBases, maxLive}
 use Rattle.net.specs.Tests.{table}
 use Rattle.net.specs.Journal.{LiveLine, transition}
 use Rattle.net.specs.declared.Transition.{Transition}
-use Rattle.net.proofs.Tables.{length-table}
 use Rattle.bonds.proofs.Fill.{fill-turn}
-use Rattle.firings.specs.Lines.{firingAt, asLine}
-use Rattle.listing.specs.First.{stepAt, nextAt, withoutAt, ordered}
+use Rattle.firings.specs.Lines.{lying}
+use Rattle.firings.proofs.Lines.{lines-length}
+use Rattle.listing.specs.First.{stepAt, ordered}
 use Rattle.listing.proofs.Arrays.{lines}
 use Rattle.listing.proofs.Filling.{here, after, filled}
 use Rattle.listing.proofs.list_steps.Statement.{statement}
@@ -80,7 +80,7 @@ returns c =
     let at : tie.At-loop Inv-loop μ-loop = c .before in
     let given = at .before .args in
     let ls : List LiveLine = lines (given .live) (given .transitions) (given .keys) (given .moved) in
-    let size : length ls ≡ given .live = length-table (given .live) (λ x. asLine maxBases (firingAt (given .transitions) (given .keys) (given .moved) x)) in
+    let size : length ls ≡ given .live = lines-length maxBases (lying (given .live) (given .transitions) (given .keys) (given .moved)) in
     let e : at .loop .n ≡ given .live = omega arith in
     filled ls (given .live) (at .loop .steps) (sym size)
     (at .loop .inv .7 ∙ (λ i. table (e i) (λ x. transition (stepAt (ordered (sym size i) ls) x)) ++ drop (e i) (replicate maxLive (transition 0))))

@@ -5,14 +5,15 @@ use mathlib.Core.Path.{_≡_, sym, _∙_, ap}
 use mathlib.Core.List.{List}
 use Prim.Native.Nat.{ℕ}
 use native.Mathlib.Omega.{arith}
-use lib.ListN.{length, getD}
-use Rattle.net.specs.Limits.{maxBases, maxLive}
-use Rattle.net.specs.Journal.{LiveLine, noLine, transition}
-use Rattle.firings.specs.Lines.{linesIn}
+use lib.ListN.{length}
+use Rattle.net.specs.Limits.{maxBases}
+use Rattle.net.specs.Journal.{LiveLine, transition}
+use Rattle.firings.specs.Lines.{lying, linesIn}
+use Rattle.firings.proofs.Lines.{line-at}
 use Rattle.firings.specs.declared.Firing.{Firing}
 use Rattle.firings.specs.declared.Firings.{Firings}
 use Rattle.listing.specs.First.{stepAt, nextAt, withoutAt}
-use Rattle.listing.proofs.Arrays.{lines, line-at}
+use Rattle.listing.proofs.Arrays.{lines}
 use Rattle.listing.proofs.Closing.{lines-without, closed-long}
 use Rattle.listing.proofs.next_step.Statement.{statement}
 use Rattle.listing.proofs.next_step.Tie as tie
@@ -44,7 +45,7 @@ returns c =
     let h = n .next-at .ensures .0 in
     let made = u .close-up .ensures in (
       c .transition-of .ensures ∙ ap (λ (x : Firing). transition (x .transition)) (f .firing-at .ensures)
-          ∙ ap (λ (l : LiveLine). transition (l .transition .0)) (sym (line-at live ts keys ms i h)) ∙ ap (λ (x : ℕ). transition (stepAt (lines live ts keys ms) x)) e,
+          ∙ ap (λ (l : LiveLine). transition (l .transition .0)) (sym (line-at maxBases (lying live ts keys ms) i h)) ∙ ap (λ (x : ℕ). transition (stepAt (lines live ts keys ms) x)) e,
       (
         ap (linesIn maxBases) made ∙ lines-without live i ts keys ms h ∙ ap (λ (x : ℕ). withoutAt x (lines live ts keys ms)) e,
         (

@@ -2,19 +2,21 @@
 -- Assumes nothing but the laws of proofs/.
 use borrow.Author.Needs.{needs}
 use native.Mathlib.Omega.{arith}
-use mathlib.Core.Path.{_≡_, sym, _∙_, ap}
-use Prim.Native.Nat.{_+_, _-_, _≤_}
-use lib.ListN.{getD}
+use mathlib.Core.Path.{_≡_}
+use mathlib.Core.List.{List}
+use Prim.Native.Nat.{ℕ, _+_, _-_, _≤_}
+use lib.ListN.{drop}
 use Rattle.net.specs.Limits.{maxBases, maxLive}
 use Rattle.words.specs.Sets.{setOf}
-use Rattle.spread.specs.Depends.{spread}
-use Rattle.spread.proofs.Sets.{upTo, up-none, up-more}
+use Rattle.spread.specs.Depends.{spread, spreadFrom}
+use Rattle.spread.proofs.Places.{lines, from-one, from-more, from-end}
 use Rattle.spread.proofs.spread_at.Statement.{statement}
 use Rattle.spread.proofs.spread_at.Tie as tie
 
 abbrev Inv-loop : tie.InvT-loop
 Inv-loop moved live i set₀ j₀ set j =
-    (i + 1 ≤ j) × (j ≤ live) × (live ≤ maxLive) × (setOf maxBases set ≡ upTo moved i (setOf maxBases (getD moved i 0)) j)
+    (i + 1 ≤ j) × (j ≤ live) × (live ≤ maxLive)
+    × ((ts keys : List ℕ) → spread (setOf maxBases set) (drop j (lines live ts keys moved)) ≡ spreadFrom i (lines live ts keys moved))
 
 abbrev μ-loop : tie.MeasureT-loop
 μ-loop moved live i set₀ j₀ set j = live - j
@@ -29,7 +31,7 @@ add-j : tie.Need-add-j Inv-loop μ-loop
 add-j c = search needs
 
 loop-holds : tie.Need-loop-holds Inv-loop μ-loop
-loop-holds c = (search needs, search needs, search needs, sym (up-none (c .before .args .moved .now) (c .before .args .i) (setOf maxBases (getD (c .before .args .moved .now) (c .before .args .i) 0))))
+loop-holds c = let given = c .before .args in (search needs, search needs, search needs, λ ts keys. from-one (given .live) ts keys (given .moved .now) (given .i) (c .before .pre .0))
 
 mul-wider : tie.Need-mul-wider Inv-loop μ-loop
 mul-wider c = search needs
@@ -53,15 +55,14 @@ loop-again c =
       search needs,
       search needs,
       search needs,
-      up-more (given .moved .now) (given .i) (setOf maxBases (getD (given .moved .now) (given .i) 0)) (at .loop .j) (omega arith) _ _ (at .loop .inv .3) (c .wider .ensures),
+      λ ts keys. from-more (given .live) ts keys (given .moved .now) (at .loop .j) (omega arith) _ _ _ (at .loop .inv .3 ts keys) (c .wider .ensures),
     )
 
 returns : tie.Need-returns Inv-loop μ-loop
 returns c =
     let at : tie.At-loop Inv-loop μ-loop = c .before in
     let given = at .before .before .args in
-    let e : at .loop .j ≡ given .live = omega arith in
-    at .loop .inv .3 ∙ ap (upTo (given .moved .now) (given .i) (setOf maxBases (getD (given .moved .now) (given .i) 0))) e
+    λ ts keys. from-end (given .live) ts keys (given .moved .now) (at .loop .j) (omega arith) _ _ (at .loop .inv .3 ts keys)
 
 pub spread-at-spec : {M : Type 1} → statement M
 spread-at-spec =

@@ -1,20 +1,11 @@
 -- `spread::spread_of` meets its contract.
 -- Assumes nothing but the laws of proofs/.
-use mathlib.Core.Path.{sym, _∙_, ap}
-use mathlib.Core.Bool.{Bool}
-use Prim.Native.Nat.{ℕ}
-use lib.Dec.{ltb}
+use mathlib.Core.Path.{_∙_, ap}
 use borrow.Author.Needs.{needs}
-use borrow.Author.Tests.{le-ltb, lt-ltb}
-use Rattle.net.specs.Tests.{pick}
-use Rattle.spread.specs.Spread.{told, notTold, spreadAt}
-use Rattle.spread.specs.declared.Spread.{Spread}
+use Rattle.spread.specs.Spread.{told}
+use Rattle.spread.proofs.Places.{told-live, told-missing}
 use Rattle.spread.proofs.spread_of.Statement.{statement}
 use Rattle.spread.proofs.spread_of.Tie as tie
-
--- what is given where the firing stands at i
-abbrev at : tie.Start → ℕ → Spread
-at s i = pick (ltb i (s .args .live)) (told (spreadAt (s .args .live) (s .args .moved .now) i)) (notTold 19)
 
 index-of-requires : tie.Need-index-of-requires
 index-of-requires c κs = search needs
@@ -26,10 +17,8 @@ returns : tie.Need-returns
 returns c =
     let t : tie.Then1 = c .before in
     let i : tie.After-index-of = t .before in
-    let s : tie.Start = i .before in
-    c .tell-none .ensures
-    ∙ ap (λ (x : Bool). pick x (told (spreadAt (s .args .live) (s .args .moved .now) (i .index-of .result))) (notTold 19)) (sym (le-ltb (i .index-of .result) (s .args .live) (t .if1 .taken)))
-    ∙ ap (at s) (i .index-of .ensures)
+    let given = i .before .args in
+    λ ts. told-missing (given .live) ts (given .keys .now) (given .moved .now) (given .key) (i .index-of .result) (i .index-of .ensures) _ (t .if1 .taken) (c .tell-none .ensures)
 
 spread-at-requires : tie.Need-spread-at-requires
 spread-at-requires c κs = search needs
@@ -42,10 +31,9 @@ returns-2 c =
     let a : tie.After-spread-at = c .before in
     let e : tie.Else1 = a .before in
     let i : tie.After-index-of = e .before in
-    let s : tie.Start = i .before in
-    c .tell .ensures ∙ ap told (a .spread-at .ensures)
-    ∙ ap (λ (x : Bool). pick x (told (spreadAt (s .args .live) (s .args .moved .now) (i .index-of .result))) (notTold 19)) (sym (lt-ltb (i .index-of .result) (s .args .live) (e .if1 .left)))
-    ∙ ap (at s) (i .index-of .ensures)
+    let given = i .before .args in
+    λ ts. told-live (given .live) ts (given .keys .now) (given .moved .now) (given .key) (i .index-of .result) (i .index-of .ensures) _ (e .if1 .left)
+    (c .tell .ensures ∙ ap told (a .spread-at .ensures ts (given .keys .now)))
 
 pub spread-of-spec : {M : Type 1} → statement M
 spread-of-spec = tie.close (tie.spec index-of-requires tell-none-requires returns spread-at-requires tell-requires returns-2)

@@ -32,7 +32,7 @@ returns-2 : tie.Need-returns-2
 returns-2 c =
     let e : tie.Else1 = c .before .before .before .before .before in
     let s : tie.Start = start (e .before) in
-    spread-asked (s .args .sheet .now) (s .args .self) (s .args .key) (e .before .refusal-on .ensures .1 (e .if1 .left)) _ (c .spread-of .ensures)
+    spread-asked (s .args .sheet .now) (s .args .self) (s .args .key) (e .before .refusal-on .ensures .1 (e .if1 .left)) _ (c .spread-of .ensures (s .args .self .firings .transitions))
 
 pub spread-spec : {M : Type 1} → statement M
 spread-spec = tie.close (tie.spec refusal-on-requires tell-none-requires returns spread-of-requires returns-2)
