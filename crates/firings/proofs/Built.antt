@@ -1,25 +1,21 @@
--- What was built on a line, by the arrays: the later ones have the higher keys, and sets as words meet where sets do.
+-- What was built on a line: the later ones have the higher keys; and sets as words meet where sets do.
 -- Assumes nothing.
 use mathlib.Core.Path.{_≡_, refl, sym, _∙_, ap}
-use mathlib.Core.Logic.{inr}
 use mathlib.Core.Bool.{Bool, false, _&&_, _||_}
-use mathlib.Core.List.{List, [], _∷_, _++_, map}
+use mathlib.Core.List.{List, [], _∷_, _++_}
 use Prim.Native.Nat.{ℕ, zero, suc, _+_, _*_, _-_, _<_, _≤_}
 use native.Mathlib.Omega.{arith}
 use lib.Dec.{ltb}
-use lib.ListN.{length, getD, replicate, length-append, length-replicate}
+use lib.ListN.{length, replicate, length-append, length-replicate}
 use borrow.Author.Tests.{lt-ltb, le-ltb}
-use Rattle.causal.specs.Lists.{Mem}
 use Rattle.causal.proofs.Lists.{mem-mid}
-use Rattle.net.specs.Limits.{maxBases, maxLive}
-use Rattle.net.specs.Tests.{pick, any, table}
-use Rattle.net.specs.Journal.{LiveLine, noLine, common, builtOn}
+use Rattle.net.specs.Limits.{maxBases}
+use Rattle.net.specs.Tests.{pick, any}
+use Rattle.net.specs.Journal.{LiveLine, common, builtOn}
 use Rattle.net.proofs.Tests.{any-cong}
 use Rattle.net.proofs.Keys.{Up}
 use Rattle.words.specs.Sets.{setOf, packed}
 use Rattle.words.proofs.Bits.{set-packed}
-use Rattle.firings.specs.Lines.{setsOf, firingsOf}
-use Rattle.firings.proofs.Laid.{getD-front, mem-at}
 
 -- ---- a set as a word, with bits for more bases
 
@@ -54,17 +50,8 @@ common-words n a b h p q =
 
 -- ---- those after a line
 
--- a live firing after the one at i moved a base that it moved
-abbrev pub builtOnIn : ℕ → List ℕ → ℕ → Bool
-builtOnIn k moved i = any (λ j. common (setOf maxBases (getD moved i 0)) (setOf maxBases (getD moved (i + 1 + j) 0))) (table (k - (i + 1)) (λ j. j))
-
--- a test on what an index reads is the test on the elements
-any-read : {X : Type 0} (t : X → Bool) (d : X) (xs : List X) (p : ℕ → Bool) (f : ℕ → ℕ) → ((j : ℕ) → j < length xs → p (f j) ≡ t (getD xs j d)) → any p (table (length xs) f) ≡ any t xs
-any-read t d [] p f h = refl
-any-read t d (x ∷ xs) p f h = let a = h 0 (omega arith) in let b = any-read t d xs p (λ j. f (suc j)) (λ j k. h (suc j) (omega arith)) in λ i. a i || b i
-
 -- of ascending lines, those after l have higher keys, the others do not
-later-only : (l : LiveLine) (xs ys : List LiveLine) → Up (xs ++ l ∷ ys) → builtOn (xs ++ l ∷ ys) l ≡ any (λ (k : LiveLine). common (l .moved) (k .moved)) ys
+pub later-only : (l : LiveLine) (xs ys : List LiveLine) → Up (xs ++ l ∷ ys) → builtOn (xs ++ l ∷ ys) l ≡ any (λ (k : LiveLine). common (l .moved) (k .moved)) ys
 later-only l [] ys u =
     let own : ltb (l .key .0) (l .key .0) ≡ false = le-ltb (l .key .0) (l .key .0) (omega arith) in
     rw own (any-cong (λ (k : LiveLine). ltb (l .key .0) (k .key .0) && common (l .moved) (k .moved)) (λ (k : LiveLine). common (l .moved) (k .moved)) ys
@@ -73,32 +60,3 @@ later-only l (x ∷ xs) ys u =
     let a : x .key .0 < l .key .0 = u .0 l (mem-mid l xs ys) in
     let b : ltb (l .key .0) (x .key .0) ≡ false = le-ltb (l .key .0) (x .key .0) (omega arith) in
     rw b (later-only l xs ys (u .1))
-
--- the array of all g behind those of xs and of l
-behind : (g : LiveLine → ℕ) (l : LiveLine) (xs ys : List LiveLine) (r : List ℕ) (j : ℕ) → j < length ys → getD (map g (xs ++ l ∷ ys) ++ r) (length xs + 1 + j) 0 ≡ g (getD ys j noLine)
-behind g l [] ys r j h = let e : zero + 1 + j ≡ suc j = omega arith in ap (λ (k : ℕ). getD (map g (l ∷ ys) ++ r) k 0) e ∙ getD-front g ys r noLine j h
-behind g l (x ∷ xs) ys r j h =
-    let e : suc (length xs) + 1 + j ≡ suc (length xs + 1 + j) = omega arith in
-    ap (λ (k : ℕ). getD (map g (x ∷ xs ++ l ∷ ys) ++ r) k 0) e ∙ behind g l xs ys r j h
-
-here : (g : LiveLine → ℕ) (l : LiveLine) (xs ys : List LiveLine) (r : List ℕ) → getD (map g (xs ++ l ∷ ys) ++ r) (length xs) 0 ≡ g l
-here g l [] ys r = refl
-here g l (x ∷ xs) ys r = here g l xs ys r
-
-pub built-lines : (n : ℕ) (l : LiveLine) (xs ys : List LiveLine) → n ≤ maxBases → ((k : LiveLine) → Mem k (xs ++ l ∷ ys) → length (k .moved) ≡ n) → Up (xs ++ l ∷ ys)
-    → builtOnIn (length (xs ++ l ∷ ys)) (firingsOf (xs ++ l ∷ ys) .moved) (length xs) ≡ builtOn (xs ++ l ∷ ys) l
-built-lines n l xs ys few flags u =
-    let set : LiveLine → ℕ = λ (k : LiveLine). packed (k .moved) in
-    let ws : List ℕ = firingsOf (xs ++ l ∷ ys) .moved in
-    let rest : List ℕ = replicate (maxLive - length (setsOf (xs ++ l ∷ ys))) 0 in
-    let mine : getD ws (length xs) 0 ≡ set l = here set l xs ys rest in
-    let left : length (xs ++ l ∷ ys) - (length xs + 1) ≡ length ys = (let a = length-append xs (l ∷ ys) in omega arith) in
-    ap (λ (k : ℕ). any (λ j. common (setOf maxBases (getD ws (length xs) 0)) (setOf maxBases (getD ws (length xs + 1 + j) 0))) (table k (λ j. j))) left
-    ∙ any-read (λ (k : LiveLine). common (l .moved) (k .moved)) noLine ys (λ j. common (setOf maxBases (getD ws (length xs) 0)) (setOf maxBases (getD ws (length xs + 1 + j) 0))) (λ j. j)
-    (λ j h. (λ i. common (setOf maxBases (mine i)) (setOf maxBases (behind set l xs ys rest j h i)))
-    ∙ common-words n (l .moved) (getD ys j noLine .moved) few (flags l (mem-mid l xs ys)) (flags (getD ys j noLine) (mem-tail l xs ys (getD ys j noLine) (mem-at ys noLine j h))))
-    ∙ sym (later-only l xs ys u)
-  where
-    mem-tail : (l : LiveLine) (xs ys : List LiveLine) (k : LiveLine) → Mem k ys → Mem k (xs ++ l ∷ ys)
-    mem-tail l [] ys k m = inr m
-    mem-tail l (x ∷ xs) ys k m = inr (mem-tail l xs ys k m)

@@ -2,18 +2,17 @@
 -- Definitions only. Each is the test of a definition of net or firings, of what that definition asks it.
 use mathlib.Core.Bool.{Bool, not, _&&_}
 use mathlib.Core.List.{List}
-use Prim.Native.Nat.{ℕ, _+_, _-_}
+use Prim.Native.Nat.{ℕ, suc, _+_}
 use lib.Dec.{eqb}
-use lib.ListN.{getD}
+use lib.ListN.{getD, drop}
 use Rattle.net.specs.Limits.{maxBases}
 use Rattle.net.specs.Tests.{any, table, firstAt}
 use Rattle.net.specs.Net.{Arcs, Marking, hasBond}
 use Rattle.net.specs.Connection.{connected}
 use Rattle.net.specs.Firing.{inSet, bondsSeen}
-use Rattle.net.specs.Journal.{common}
+use Rattle.net.specs.Journal.{LiveLine, noLine, common}
 use Rattle.net.specs.declared.Bond.{Bond}
 use Rattle.net.specs.declared.Entry.{Entry}
-use Rattle.words.specs.Sets.{setOf}
 
 -- 13: an entry's base is not at its in-place
 abbrev pub awayFrom : List ℕ → Entry → Bool
@@ -35,18 +34,18 @@ tornFrom t s e d = connected (bondsSeen t (s .bonds)) (e .base) (d .base) && not
 abbrev pub hasPartner : Arcs → Marking → Entry → Bool
 hasPartner t s e = any (tornFrom t s e) (t .entries)
 
--- 20: the j-th firing after the one at i moved a base that it moved
-abbrev pub builtAfter : List ℕ → ℕ → ℕ → Bool
-builtAfter moved i j = common (setOf maxBases (getD moved i 0)) (setOf maxBases (getD moved (i + 1 + j) 0))
+-- 20: a line after l moved a base that l moved
+abbrev pub builtAfter : LiveLine → LiveLine → Bool
+builtAfter l k = common (l .moved) (k .moved)
+
+-- 20: where the first such line stands after the one at i; the number of lines where there is none
+abbrev pub laterAt : List LiveLine → ℕ → ℕ
+laterAt ls i = suc i + firstAt (builtAfter (getD ls i noLine)) (drop (suc i) ls)
 
 -- 20: a base is in both sets
 abbrev pub inBoth : List Bool → List Bool → ℕ → Bool
 inBoth a b p = inSet a p && inSet b p
 
--- 20: where the first of k live firings stands that is after the one at i and moved a base that it moved; k where there is none
-abbrev pub laterAt : ℕ → List ℕ → ℕ → ℕ
-laterAt k moved i = i + 1 + firstAt (builtAfter moved i) (table (k - (i + 1)) (λ j. j))
-
--- 20: the first base of both words; the number of bases where there is none
-abbrev pub commonAt : ℕ → ℕ → ℕ
-commonAt a b = firstAt (inBoth (setOf maxBases a) (setOf maxBases b)) (table maxBases (λ p. p))
+-- 20: the first such base, of those that a sheet can have; their number where there is none
+abbrev pub commonAt : List Bool → List Bool → ℕ
+commonAt a b = firstAt (inBoth a b) (table maxBases (λ p. p))

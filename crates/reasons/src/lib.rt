@@ -1,6 +1,7 @@
 // Why a command was refused (document 01, refusals 13 to 16 and 20): the number of the first entry, coupling, firing or base
 // that holds the condition; how many there are where none does. That what is named holds it: proofs/Named and proofs/Built.
 ghost use mathlib.Core.Path.{_≡_};
+ghost use mathlib.Core.List.{List};
 ghost use Prim.Native.Nat.{ℕ, _<_, _≤_};
 ghost use Rattle.net.specs.Firing.{bondsSeen};
 ghost use Rattle.net.specs.Limits.{maxBases, maxBonds, maxLive};
@@ -8,7 +9,9 @@ ghost use Rattle.net.specs.Sorted.{Ascending};
 ghost use Rattle.net.specs.Net.{Arcs, Marking, sameBond, lessBond};
 ghost use Rattle.format.specs.Arcs.{entryCount, nthEntry, arcsIn};
 ghost use Rattle.bonds.specs.Ends.{bondsIn};
+ghost use Rattle.words.specs.Sets.{setOf};
 ghost use Rattle.labels.specs.Labelled.{Parted};
+ghost use Rattle.firings.specs.Lines.{lying, linesIn};
 ghost use Rattle.net.specs.Tests.{firstAt};
 ghost use Rattle.reasons.specs.Reasons.{awayFrom, absentFrom, presentIn, tornFrom, hasPartner, laterAt, commonAt};
 use bonds::has_bond;
@@ -161,7 +164,7 @@ pub fn first_torn(step: &[u8], l: &[Base; MAX_BASES]) -> u8
 // i among the live ones.
 pub fn first_later(moved: &[u64; MAX_LIVE], live: usize, i: usize) -> usize
     requires { ⌜ (i < live) × (live ≤ maxLive) ⌝ }
-    ensures { λ r. ⌜ r ≡ laterAt live (now (moved .entry)) i ⌝ }
+    ensures { λ r. ⌜ ((ts keys : List ℕ) → r ≡ laterAt (linesIn maxBases (lying live ts keys (now (moved .entry)))) i) ⌝ }
 {
     let mine = moved[i];
     let mut j = i + 1;
@@ -177,7 +180,7 @@ pub fn first_later(moved: &[u64; MAX_LIVE], live: usize, i: usize) -> usize
 
 // 20: the first base of both sets.
 pub fn first_common(a: u64, b: u64) -> usize
-    ensures { λ r. ⌜ r ≡ commonAt a b ⌝ }
+    ensures { λ r. ⌜ r ≡ commonAt (setOf maxBases a) (setOf maxBases b) ⌝ }
 {
     let mut p = 0;
     while p < MAX_BASES {

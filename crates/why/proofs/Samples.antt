@@ -13,7 +13,6 @@ use Rattle.sheet.specs.Samples.{sheetB}
 use Rattle.sheet.proofs.Accepted.{clear-of}
 use Rattle.sheet.proofs.Samples.{sheetB-accepted, sheetB-net}
 use Rattle.tally.specs.declared.Tally.{Tally}
-use Rattle.words.specs.Sets.{setOf, packed}
 use Rattle.session.specs.Commands.{freshOf}
 use Rattle.session.specs.Runs.{runOf}
 use Rattle.why.specs.Why.{reasonFor, whyOf}
@@ -66,7 +65,7 @@ why-M12 t = on-net [] t undoLast
 
 -- M3: firing 2 came later, and moved part 0 too
 pub why-M3 : (t : Tally) → whyB (fireOf 0 ∷ fireOf 1 ∷ []) t (undoOf 1) ≡ Reason.Later (key 2) 0
-unfolding reasonFor setOf packed
+unfolding reasonFor
 why-M3 t = on-net (fireOf 0 ∷ fireOf 1 ∷ []) t (undoOf 1)
 
 -- M1 would not be refused

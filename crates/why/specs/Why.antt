@@ -12,7 +12,6 @@ use Rattle.net.specs.declared.Bond.{Bond}
 use Rattle.net.specs.declared.Entry.{Entry}
 use Rattle.net.specs.declared.Key.{Key}
 use Rattle.format.specs.NetOf.{netOf}
-use Rattle.firings.specs.Lines.{firingsOf}
 use Rattle.firings.specs.Search.{indexOf}
 use Rattle.session.specs.Records.{heldIn}
 use Rattle.session.specs.Commands.{commandChecks}
@@ -46,16 +45,12 @@ tornEntry t s = getD (t .entries) (firstAt (hasPartner t s) (t .entries)) noEntr
 abbrev pub partnerOf : Arcs → Marking → Entry → Entry
 partnerOf t s e = getD (t .entries) (firstAt (tornFrom t s e) (t .entries)) noEntry
 
--- 20: the moved set of the i-th firing, as a word; the first firing after the one of key k that moved a part which that one
--- moved; the first such part
-abbrev pub setAt : List LiveLine → ℕ → ℕ
-setAt ls i = getD (firingsOf ls .moved) i 0
-
+-- 20: where the first line after the one of key k stands that moved a part which that one moved; the first such part
 abbrev pub laterPlace : List LiveLine → Key → ℕ
-laterPlace ls k = laterAt (length ls) (firingsOf ls .moved) (indexOf k (lineKeys ls))
+laterPlace ls k = laterAt ls (indexOf k (lineKeys ls))
 
 abbrev pub laterPart : List LiveLine → Key → ℕ
-laterPart ls k = commonAt (setAt ls (indexOf k (lineKeys ls))) (setAt ls (laterPlace ls k))
+laterPart ls k = commonAt (getD ls (indexOf k (lineKeys ls)) noLine .moved) (getD ls (laterPlace ls k) noLine .moved)
 
 -- ---- The reasons that name something: 13 with the place where the part is, 14, 15, 16 with the partner
 

@@ -3,21 +3,21 @@
 use borrow.Author.Needs.{needs}
 use native.Mathlib.Omega.{arith}
 use mathlib.Core.Path.{_≡_, sym, _∙_}
-use mathlib.Core.Bool.{false}
-use Prim.Native.Nat.{_+_, _-_, _≤_}
+use mathlib.Core.List.{List}
+use Prim.Native.Nat.{ℕ, _+_, _-_, _≤_}
 use lib.ListN.{getD}
 use Rattle.net.specs.Limits.{maxBases, maxLive}
-use Rattle.net.specs.Tests.{any, table}
 use Rattle.words.specs.Sets.{setOf}
-use Rattle.reasons.specs.Reasons.{builtAfter}
+use Rattle.reasons.specs.Reasons.{laterAt}
 use Rattle.net.specs.Journal.{common}
-use Rattle.reasons.proofs.Later.{later-begin, later-here, later-on, later-none}
+use Rattle.reasons.proofs.Later.{lines, from, later-begin, later-here, later-on, later-none}
 use Rattle.reasons.proofs.first_later.Statement.{statement}
 use Rattle.reasons.proofs.first_later.Tie as tie
 
 abbrev Inv-loop : tie.InvT-loop
 Inv-loop moved live i mine j₀ j =
-    (mine ≡ getD moved i 0) × (i + 1 ≤ j) × (j ≤ live) × (live ≤ maxLive) × (any (builtAfter moved i) (table (j - (i + 1)) (λ k. k)) ≡ false)
+    (mine ≡ getD moved i 0) × (i + 1 ≤ j) × (j ≤ live) × (live ≤ maxLive)
+    × ((ts keys : List ℕ) → laterAt (lines live ts keys moved) i ≡ from live ts keys moved i j)
 
 abbrev μ-loop : tie.MeasureT-loop
 μ-loop moved live i mine j₀ j = live - j
@@ -32,7 +32,7 @@ add-j : tie.Need-add-j Inv-loop μ-loop
 add-j c = search needs
 
 loop-holds : tie.Need-loop-holds Inv-loop μ-loop
-loop-holds c = (search needs, search needs, search needs, search needs, later-begin (c .before .args .moved .now) (c .before .args .i))
+loop-holds c = (search needs, search needs, search needs, search needs, λ ts keys. later-begin (c .before .args .live) ts keys (c .before .args .moved .now) (c .before .args .i))
 
 mul-shares : tie.Need-mul-shares Inv-loop μ-loop
 mul-shares c = search needs
@@ -47,9 +47,9 @@ returns : tie.Need-returns Inv-loop μ-loop
 returns c =
     let m : tie.After-shares Inv-loop μ-loop = c .before in
     let at : tie.At-loop Inv-loop μ-loop = m .before .before .before in
-    let from = at .before .before in
-    later-here (from .args .moved .now) (from .args .live) (from .args .i) (at .loop .j) (at .loop .inv .1) (omega arith) (at .loop .inv .4)
-    ((λ k. common (setOf maxBases (sym (at .loop .inv .0) k)) (setOf maxBases (getD (from .args .moved .now) (at .loop .j) 0))) ∙ sym (m .shares .ensures) ∙ c .if1 .taken)
+    let s = at .before .before in
+    λ ts keys. later-here (s .args .live) ts keys (s .args .moved .now) (s .args .i) (s .pre .0) (at .loop .j) (omega arith) (at .loop .inv .4 ts keys)
+    ((λ k. common (setOf maxBases (sym (at .loop .inv .0) k)) (setOf maxBases (getD (s .args .moved .now) (at .loop .j) 0))) ∙ sym (m .shares .ensures) ∙ c .if1 .taken)
 
 add-j-2 : tie.Need-add-j-2 Inv-loop μ-loop
 add-j-2 c = search needs
@@ -61,21 +61,20 @@ loop-again : tie.Need-loop-again Inv-loop μ-loop
 loop-again c =
     let m : tie.After-shares Inv-loop μ-loop = c .before in
     let at : tie.At-loop Inv-loop μ-loop = m .before .before .before in
-    let from = at .before .before in (
+    let s = at .before .before in (
       at .loop .inv .0,
       search needs,
       search needs,
       search needs,
-      later-on (from .args .moved .now) (from .args .i) (at .loop .j) (at .loop .inv .1) (at .loop .inv .4)
-          ((λ k. common (setOf maxBases (sym (at .loop .inv .0) k)) (setOf maxBases (getD (from .args .moved .now) (at .loop .j) 0))) ∙ sym (m .shares .ensures) ∙ c .if1 .left),
+      λ ts keys. later-on (s .args .live) ts keys (s .args .moved .now) (s .args .i) (s .pre .0) (at .loop .j) (omega arith) (at .loop .inv .4 ts keys)
+          ((λ k. common (setOf maxBases (sym (at .loop .inv .0) k)) (setOf maxBases (getD (s .args .moved .now) (at .loop .j) 0))) ∙ sym (m .shares .ensures) ∙ c .if1 .left),
     )
 
 returns-2 : tie.Need-returns-2 Inv-loop μ-loop
 returns-2 c =
     let at : tie.At-loop Inv-loop μ-loop = c .before in
-    let from = at .before .before in
-    let e : at .loop .j ≡ from .args .live = omega arith in
-    later-none (from .args .moved .now) (from .args .live) (from .args .i) (at .loop .j) e (at .loop .inv .1) (at .loop .inv .4)
+    let s = at .before .before in
+    λ ts keys. later-none (s .args .live) ts keys (s .args .moved .now) (s .args .i) (s .pre .0) (at .loop .j) (omega arith) (at .loop .inv .4 ts keys)
 
 pub first-later-spec : {M : Type 1} → statement M
 first-later-spec =

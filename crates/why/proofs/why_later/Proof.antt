@@ -2,6 +2,8 @@
 -- Assumes nothing but the laws of proofs/.
 use borrow.Author.Needs.{needs}
 use native.Mathlib.Omega.{arith}
+use Rattle.net.specs.Limits.{maxBases}
+use Rattle.words.specs.Sets.{setOf}
 use Rattle.sound.proofs.Holds.{live-few, keys-rise}
 use Rattle.why.proofs.Latest.{part-low, live-here, later-here, later-is}
 use Rattle.why.proofs.why_later.Statement.{statement}
@@ -38,7 +40,7 @@ firing-at-requires-2 c κs =
     let i : tie.After-index-of = c .before .before .before .before .before .before .before .before .before .before .before .before in
     let s : tie.Start = start i in
     let h = later-here (s .args .sheet .now) (s .args .r) (s .args .bytes .now) (s .pre .sound) (s .pre .answer) (i .before .before .before .before .key-named .result) (i .before .before .before .before .key-named .ensures) (i .index-of .result) (i .index-of .ensures)
-    (c .before .before .before .before .before .before .before .before .before .first-later .result) (c .before .before .before .before .before .before .before .before .before .first-later .ensures) in
+    (c .before .before .before .before .before .before .before .before .before .first-later .result) (c .before .before .before .before .before .before .before .before .before .first-later .ensures (s .args .r .firings .transitions) (s .args .r .firings .keys)) in
     let f = live-few (s .args .sheet .now) (s .args .r .marking) (s .args .r .firings) (s .args .r .given) (s .pre .sound .passed) in
     omega arith
 
@@ -48,7 +50,7 @@ first-common-requires c κs = search needs
 cast-t21 : tie.Need-cast-t21
 cast-t21 c =
     let e = c .before .first-common .ensures in
-    let h = part-low (c .before .before .before .before .before .before .before .firing-at .result .moved) (c .before .before .firing-at2 .result .moved) in
+    let h = part-low (setOf maxBases (c .before .before .before .before .before .before .before .firing-at .result .moved)) (setOf maxBases (c .before .before .firing-at2 .result .moved)) in
     record { fits = omega arith }
 
 returns : tie.Need-returns
@@ -56,7 +58,7 @@ returns c =
     let i : tie.After-index-of = c .before .before .before .before .before .before .before .before .before .before .before .before .before .before .before in
     let s : tie.Start = start i in
     later-is (s .args .sheet .now) (s .args .r) (s .args .bytes .now) (s .pre .sound) (s .pre .answer) (i .before .before .before .before .key-named .result) (i .before .before .before .before .key-named .ensures) (i .index-of .result) (i .index-of .ensures)
-    (c .before .before .before .before .before .before .before .before .before .before .before .before .first-later .result) (c .before .before .before .before .before .before .before .before .before .before .before .before .first-later .ensures)
+    (c .before .before .before .before .before .before .before .before .before .before .before .before .first-later .result) (c .before .before .before .before .before .before .before .before .before .before .before .before .first-later .ensures (s .args .r .firings .transitions) (s .args .r .firings .keys))
     (c .before .before .before .before .before .before .before .firing-at .result) (c .before .before .firing-at2 .result) (c .before .before .before .before .before .before .before .firing-at .ensures) (c .before .before .firing-at2 .ensures) (c .before .first-common .result) (c .before .first-common .ensures)
 
 pub why-later-spec : {M : Type 1} → statement M
