@@ -22,7 +22,7 @@ use Rattle.net.specs.declared.Key.{Key}
 use Rattle.net.proofs.Tests.{and-l, and-r, and-i, all-at, all-i}
 use Rattle.net.proofs.Tables.{length-table, getD-table, getD-table-all}
 use Rattle.net.proofs.Checks.{clear-append}
-use Rattle.net.proofs.Keys.{live-line, line-live, own-line}
+use Rattle.net.proofs.Keys.{live-line}
 use Rattle.net.proofs.Journal.{Held}
 use Rattle.net.proofs.Undoing.{act-undoes, undone-clear}
 use Rattle.published.specs.Sets.{Iff}
@@ -32,11 +32,10 @@ use Rattle.sheet.proofs.Accepted.{promised}
 use Rattle.tally.specs.declared.Tally.{Tally}
 use Rattle.movers.specs.Lamp.{lastMovers, onTop, lamp}
 use Rattle.movers.proofs.Lamp.{lamp-says}
-use Rattle.firings.proofs.Laid.{mem-at}
 use Rattle.sound.proofs.Fits.{run-flags}
 use Rattle.commands.specs.Answers.{answerOf, wordOf}
 use Rattle.commands.specs.declared.Answer.the-variants.{Undone, Refused}
-use Rattle.lamps.specs.Lamps.{shown, notShown}
+use Rattle.lamps.specs.Lamps.{flagAt, shown, notShown}
 use Rattle.lamps.specs.declared.Lamps as L
 use Rattle.session.specs.Records.{heldIn, soundFor}
 use Rattle.session.specs.Commands.{recordChecks, commandChecks, outcomeFor, acceptOf, refusal}
@@ -174,11 +173,8 @@ module _ (s : List ℕ) (r : Record) where
     -- a flag of all lamps is the lamp of its firing's key
     flag-lit : (i : ℕ) → i < length ls → getD (shown (r .movers) ls .lit) i false ≡ lit (getD ls i noLine .key)
     flag-lit i b =
-        let l : LiveLine = getD ls i noLine in
-        let m : Mem l ls = mem-at ls noLine i b in
         let few = held .few in
-        getD-table maxLive (λ x. ltb x (length ls) && onTop maxBases (r .movers) (getD ls x noLine)) i false (omega arith)
-        ∙ (λ x. (lt-ltb i (length ls) b ∙ sym (line-live ls l (l .key) m refl)) x && onTop maxBases (r .movers) (sym (own-line ls (held .up) l m) x))
+        getD-table maxLive (flagAt (r .movers) ls) i false (omega arith) ∙ ap (λ (x : Bool). x && lit (getD ls i noLine .key)) (lt-ltb i (length ls) b)
 
   -- ---- no entry but those of the firing's own bases
 
@@ -198,8 +194,8 @@ module _ (s : List ℕ) (r : Record) where
 
   after : (i : ℕ) → length ls ≤ i → getD (shown (r .movers) ls .lit) i false ≡ false
   after i b =
-      let q : (ltb i (length ls) && onTop maxBases (r .movers) (getD ls i noLine)) ≡ false = ap (λ (x : Bool). x && onTop maxBases (r .movers) (getD ls i noLine)) (le-ltb i (length ls) b) in
-      getD-table-all maxLive (λ x. ltb x (length ls) && onTop maxBases (r .movers) (getD ls x noLine)) false i (λ _. q) ∙ q
+      let q : flagAt (r .movers) ls i ≡ false = ap (λ (x : Bool). x && lit (getD ls i noLine .key)) (le-ltb i (length ls) b) in
+      getD-table-all maxLive (flagAt (r .movers) ls) false i (λ _. q) ∙ q
 
   -- ---- all of it
 

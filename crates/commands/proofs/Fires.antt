@@ -27,7 +27,7 @@ use Rattle.marking.specs.Form.{markingOf, laid}
 use Rattle.marking.specs.declared.Marking.{Marking}
 use Rattle.firings.specs.Lines.{lying, firingsOf}
 use Rattle.firings.proofs.Changes.{with-line}
-use Rattle.movers.specs.Tables.{marked}
+use Rattle.movers.specs.Lamp.{marked}
 use Rattle.sound.proofs.Lines.{enabled-first, enabled-listed}
 use Rattle.sound.proofs.Holds.{live-is, firings-are}
 use Rattle.firings.specs.declared.Firings.{Firings}
@@ -101,7 +101,7 @@ module _ (s : List ℕ) (m : Marking) (f : Firings) (g : Key) (ms : List ℕ) (t
       more w = lying (f .live + 1) (set (f .transitions) (f .live) (t .0)) (set (f .keys) (f .live) (last .0 + 1)) (set (f .moved) (f .live) w)
 
       pub done : last .0 < maxKey → (m′ : Marking) (w : ℕ) → m′ ≡ laid (fire (basesOf s) (arcsOf (netOf s) t) (markingOf (basesOf s) m))
-          → w ≡ packed (moved (basesOf s) (arcsOf (netOf s) t) (markingOf (basesOf s) m)) → (ms′ : List ℕ) → ms′ ≡ marked (setOf maxBases w) (last .0 + 1) ms → (count : ℕ)
+          → w ≡ packed (moved (basesOf s) (arcsOf (netOf s) t) (markingOf (basesOf s) m)) → (ms′ : List ℕ) → ms′ ≡ marked maxBases (setOf maxBases w) (last .0 + 1) ms → (count : ℕ)
           → Did (fireAct (netOf s) j t) (record { answer = Fired; key = key (last .0 + 1); count = count; live = f .live + 1; given = key (last .0 + 1) }) m′ (more w) ms′
       unfolding netOf
       done h m′ w em ew ms′ et count =

@@ -2,19 +2,17 @@
 -- taking back. Assumes that what is lent passes 1 to 10.
 use mathlib.Core.Path.{_≡_, refl, sym, _∙_, ap, subst}
 use mathlib.Core.Logic.{inr}
-use mathlib.Core.Bool.{false, not, _||_}
+use mathlib.Core.Bool.{false, not}
 use mathlib.Core.List.{List, [], _∷_, _++_}
 use Prim.Native.Nat.{ℕ, zero, suc, _^_, _<_, _≤_}
 use native.Mathlib.Omega.{arith}
 use native.Mathlib.Nat.{le-of-suc-le-suc, not-suc-le-zero}
-use lib.Dec.{eqb}
 use lib.ListN.{length, getD}
 use Rattle.causal.specs.Lists.{Mem}
 use Rattle.causal.proofs.Tests.{both}
 use Rattle.causal.proofs.Lists.{mem-mid, mem-right}
 use Rattle.net.specs.Limits.{maxBases}
-use Rattle.net.specs.Tests.{pick, all, table}
-use Rattle.net.specs.Firing.{inSet}
+use Rattle.net.specs.Tests.{table}
 use Rattle.net.specs.Journal.{LiveLine, Journal, noLine, lineOf, without, common, builtOn}
 use Rattle.net.specs.declared.Key.{Key}
 use Rattle.net.proofs.Tests.{fails}
@@ -27,13 +25,12 @@ use Rattle.words.proofs.Bits.{set-packed, packed-lt}
 use Rattle.marking.specs.declared.Marking.{Marking}
 use Rattle.firings.specs.Lines.{firingAt, asLine}
 use Rattle.firings.specs.declared.Firings.{Firings}
-use Rattle.movers.specs.Lamp.{lastMover, lastMovers, onTop}
-use Rattle.movers.specs.Tables.{marked, givenBack, onTopIn}
+use Rattle.movers.specs.Lamp.{lastMover, lastMovers, keyAtAll, onTop, marked, givenBack}
 use Rattle.movers.proofs.Lamp.{movers-fire, movers-undo, top-says}
 use Rattle.sound.specs.Soundness.{journalIn, Passed, Kept}
 use Rattle.sound.proofs.Holds.{few, held}
 use Rattle.sound.proofs.Fits.{run-flags}
-use Rattle.sound.proofs.Movers.{marked-set, top-set, back-set, sets-low}
+use Rattle.sound.proofs.Movers.{marked-set, top-set, firsts, back-set, sets-low}
 use Rattle.undoing.proofs.Places.{Found}
 
 -- the first of a table, where it is the first of a list
@@ -66,10 +63,10 @@ module _ (s : List ℕ) (m : Marking) (f : Firings) (g : Key) (P : Passed s m f 
     line-is : at i ≡ lineOf k ls
     line-is = sym (getD-table (f .live) at i noLine h) ∙ F .line noLine
 
-    -- what the lamp looks at, by the arrays and by the line
-    pub top-line : (ms : List ℕ) → onTopIn ms (setOf maxBases (getD (f .moved) i 0)) (k .0) ≡ onTop maxBases ms (lineOf k ls)
+    -- what the lamp looks at, by the set as a word and by the line
+    pub top-line : (ms : List ℕ) → keyAtAll maxBases ms (setOf maxBases (getD (f .moved) i 0)) (k .0) ≡ onTop maxBases ms (lineOf k ls)
     top-line ms = top-set n (getD (f .moved) i 0) (few s m f g P) (sets-low s m f g P i h) (k .0) ms
-        ∙ ap (λ (x : ℕ). all (λ (p : ℕ). not (inSet (at i .moved) p) || eqb (getD ms p 0) x) (table maxBases (λ p. p))) (sym (F .key) ∙ ap (λ (l : LiveLine). l .key .0) (sym line-is))
+        ∙ ap (keyAtAll maxBases ms (at i .moved)) (sym (F .key) ∙ ap (λ (l : LiveLine). l .key .0) (sym line-is))
         ∙ ap (onTop maxBases ms) line-is
 
 module _ (s : List ℕ) (m : Marking) (f : Firings) (g : Key) (ms : List ℕ) (K : Kept s m f g ms) where
@@ -78,13 +75,13 @@ module _ (s : List ℕ) (m : Marking) (f : Firings) (g : Key) (ms : List ℕ) (K
   movers-full = ap length (K .movers) ∙ length-table maxBases (λ p. lastMover p (ls s m f g (K .passed)))
 
   -- after a firing: l is its line, w its moved set as a word
-  pub movers-fired : (l : LiveLine) (k w : ℕ) → k ≡ l .key .0 → w ≡ packed (l .moved) → length (l .moved) ≡ basesOf s → marked (setOf maxBases w) k ms ≡ lastMovers maxBases (ls s m f g (K .passed) ++ (l ∷ []))
+  pub movers-fired : (l : LiveLine) (k w : ℕ) → k ≡ l .key .0 → w ≡ packed (l .moved) → length (l .moved) ≡ basesOf s → marked maxBases (setOf maxBases w) k ms ≡ lastMovers maxBases (ls s m f g (K .passed) ++ (l ∷ []))
   movers-fired l k w ek ew size =
       let n : ℕ = basesOf s in
       let set : setOf n w ≡ l .moved = (λ i. setOf (sym size i) (ew i)) ∙ set-packed (l .moved) in
       let low : w < 2 ^ n = rw (ew, ← size) (packed-lt (l .moved)) in
       marked-set n w (few s m f g (K .passed)) low k ms
-      ∙ (λ i. table maxBases (λ p. pick (inSet (set i) p) (ek i) (getD (K .movers i) p 0)))
+      ∙ (λ i. marked maxBases (set i) (ek i) (K .movers i))
       ∙ sym (movers-fire maxBases (ls s m f g (K .passed)) l)
 
   module _ (i : ℕ) (h : i < f .live) (k : Key) (F : Found k (ls s m f g (K .passed)) i) where
@@ -104,7 +101,7 @@ module _ (s : List ℕ) (m : Marking) (f : Firings) (g : Key) (ms : List ℕ) (K
 
     -- after a taking back
     pub movers-undone : builtOn (ls s m f g (K .passed)) l ≡ false
-        → givenBack (f .keys) (f .moved) i (setOf maxBases (getD (f .moved) i 0)) ms ≡ lastMovers maxBases (without k (ls s m f g (K .passed)))
+        → givenBack maxBases (firsts f maxBases i) (setOf maxBases (getD (f .moved) i 0)) ms ≡ lastMovers maxBases (without k (ls s m f g (K .passed)))
     movers-undone b =
         let P = K .passed in
         let xs : List LiveLine = F .before in
@@ -113,7 +110,7 @@ module _ (s : List ℕ) (m : Marking) (f : Firings) (g : Key) (ms : List ℕ) (K
         let free : (x : LiveLine) → Mem x ys → common (l .moved) (x .moved) ≡ false = λ x q. fails (common (l .moved) (x .moved)) (λ e. both (builtOn (ls s m f g P) l)
         (built-i (ls s m f g P) l x (subst (λ (z : List LiveLine). Mem x z) (sym (F .split)) (mem-right xs (l ∷ ys) x (inr q))) (up-after l xs ys up x q) e) b) in
         back-set (basesOf s) f (few s m f g P) (sets-low s m f g P) i h ms
-        ∙ (λ x. table maxBases (λ p. pick (inSet (line-is s m f g P i h k F x .moved) p) (lastMover p (before x)) (getD (K .movers x) p 0)))
-        ∙ ap (λ (x : List LiveLine). table maxBases (λ p. pick (inSet (l .moved) p) (lastMover p xs) (getD (lastMovers maxBases x) p 0))) (F .split)
+        ∙ (λ x. givenBack maxBases (before x) (line-is s m f g P i h k F x .moved) (K .movers x))
+        ∙ ap (λ (x : List LiveLine). givenBack maxBases xs (l .moved) (lastMovers maxBases x)) (F .split)
         ∙ sym (movers-undo maxBases l xs ys free)
         ∙ ap (lastMovers maxBases) (sym (ap (without k) (F .split) ∙ without-split k l xs ys (F .key) up))

@@ -18,8 +18,9 @@ use Rattle.marking.specs.declared.Marking.{Marking}
 use Rattle.firings.specs.Search.{keysIn, indexOf}
 use Rattle.firings.specs.declared.Firings.{Firings}
 use Rattle.firings.proofs.Search.{keys-of-lines}
-use Rattle.movers.specs.Tables.{givenBack, onTopIn}
+use Rattle.movers.specs.Lamp.{keyAtAll, givenBack}
 use Rattle.sound.proofs.Holds.{live-is}
+use Rattle.sound.proofs.Movers.{firsts}
 use Rattle.undoing.specs.Back.{UndoneAt}
 use Rattle.undoing.proofs.Places.{place-most, place-dead, Found, place-found}
 use Rattle.undoing.proofs.Backs.{marking-after, firings-after}
@@ -67,7 +68,7 @@ module _ (s : List ℕ) (m : Marking) (f : Firings) (g : Key) (ms : List ℕ) (k
 
       -- the lamp is out where another was built on it
       abbrev lit : Bool
-      lit = onTopIn ms (setOf maxBases (getD (f .moved) i 0)) (k .0)
+      lit = keyAtAll maxBases ms (setOf maxBases (getD (f .moved) i 0)) (k .0)
 
       built-is : builtOn ls (lineOf k ls) ≡ not lit
       built-is = twice (builtOn ls (lineOf k ls)) ∙ ap not (sym (top-line s m f g P i h k found ms ∙ top-is s m f g ms K i h k found))
@@ -77,7 +78,7 @@ module _ (s : List ℕ) (m : Marking) (f : Firings) (g : Key) (ms : List ℕ) (k
           let q : builtOn ls (lineOf k ls) ≡ true = built-is ∙ ap not e in
           refused-did s m f g ms K (undoAct (netOf s) j k) 20 (by-first false 20 (rw (found .live, q)) (rw (found .live, q)))
 
-      pub done : lit ≡ true → (m′ : Marking) (f′ : Firings) (ms′ : List ℕ) → UndoneAt s m f i m′ f′ → ms′ ≡ givenBack (f .keys) (f .moved) i (setOf maxBases (getD (f .moved) i 0)) ms → (count live : ℕ)
+      pub done : lit ≡ true → (m′ : Marking) (f′ : Firings) (ms′ : List ℕ) → UndoneAt s m f i m′ f′ → ms′ ≡ givenBack maxBases (firsts f maxBases i) (setOf maxBases (getD (f .moved) i 0)) ms → (count live : ℕ)
           → Did (undoAct (netOf s) j k) (record { answer = Undone; key = k; count = count; live = live; given = g }) m′ f′ ms′
       done e m′ f′ ms′ T et count live =
           let q : builtOn ls (lineOf k ls) ≡ false = built-is ∙ ap not e in

@@ -1,6 +1,7 @@
 -- Laws of live firings in arrays.
 pub mod Loops
 pub mod Search
+pub mod Keys
 pub mod Changes
 pub mod Laid
 pub mod Lines

@@ -2,11 +2,14 @@
 // The session's calls check the sheet and the record first.
 ghost use mathlib.Core.Path.{_≡_};
 ghost use mathlib.Core.Bool.{true};
-ghost use Prim.Native.Nat.{_<_, _≤_};
-ghost use Rattle.net.specs.Limits.{maxLive};
+ghost use mathlib.Core.List.{List};
+ghost use Prim.Native.Nat.{ℕ, _<_, _≤_};
+ghost use Rattle.net.specs.Limits.{maxBases, maxLive};
+ghost use Rattle.firings.specs.Lines.{lying, linesIn};
 ghost use Rattle.firings.specs.Search.{keysIn};
 ghost use Rattle.firings.specs.Form.{climbs};
-ghost use Rattle.lamps.specs.Lamps.{notShown, litAt, shownIn, litKey};
+ghost use Rattle.movers.specs.Lamp.{lamp};
+ghost use Rattle.lamps.specs.Lamps.{flagAt, shown, notShown};
 use firings::index_of;
 use movers::table::on_top;
 use net::Key;
@@ -21,7 +24,7 @@ pub struct Lamps {
     pub lit: [bool; MAX_LIVE],
 }
 
-// Whether the live firing at i can come off; no after the live ones. The callers ask below the limit.
+// The lamp of the live firing at i; no after the live ones. The keys of a sound record ascend, here and below.
 fn lit_at<'a>(
     movers: &'a [u16; MAX_BASES],
     keys: &'a [u16; MAX_LIVE],
@@ -29,8 +32,9 @@ fn lit_at<'a>(
     live: usize,
     i: usize,
 ) -> bool
-    requires { ⌜ i < maxLive ⌝ }
-    ensures { λ r. ⌜ r ≡ litAt (now (movers .entry)) live (now (keys .entry)) (now (moved .entry)) i ⌝ }
+    requires { ⌜ (i < maxLive) × (climbs 0 (keysIn live (now keys)) ≡ true) ⌝ }
+    ensures { λ r. ⌜
+        ((ts : List ℕ) → r ≡ flagAt (now (movers .entry)) (linesIn maxBases (lying live ts (now (keys .entry)) (now (moved .entry)))) i) ⌝ }
 {
     if i < live {
         return on_top(movers, moved[i], Key(keys[i]));
@@ -38,7 +42,7 @@ fn lit_at<'a>(
     false
 }
 
-// The lamp of a key: no where it is not live. The keys of a sound record ascend.
+// The lamp of a key: no where it is not live.
 pub fn is_lit<'a>(
     movers: &'a [u16; MAX_BASES],
     keys: &'a [u16; MAX_LIVE],
@@ -47,7 +51,8 @@ pub fn is_lit<'a>(
     key: Key,
 ) -> bool
     requires { ⌜ (live ≤ maxLive) × (climbs 0 (keysIn live (now keys)) ≡ true) ⌝ }
-    ensures { λ r. ⌜ r ≡ litKey (now (movers .entry)) live (now (keys .entry)) (now (moved .entry)) key ⌝ }
+    ensures { λ r. ⌜
+        ((ts : List ℕ) → r ≡ lamp maxBases (now (movers .entry)) (linesIn maxBases (lying live ts (now (keys .entry)) (now (moved .entry)))) key) ⌝ }
 {
     let i = index_of(keys, live, key);
     if live <= i {
@@ -63,7 +68,9 @@ pub fn show<'a>(
     moved: &'a [u64; MAX_LIVE],
     live: usize,
 ) -> Lamps
-    ensures { λ r. ⌜ r ≡ shownIn (now (movers .entry)) live (now (keys .entry)) (now (moved .entry)) ⌝ }
+    requires { ⌜ climbs 0 (keysIn live (now keys)) ≡ true ⌝ }
+    ensures { λ r. ⌜
+        ((ts : List ℕ) → r ≡ shown (now (movers .entry)) (linesIn maxBases (lying live ts (now (keys .entry)) (now (moved .entry))))) ⌝ }
 {
     let mut lit = [false; MAX_LIVE];
     let mut i = 0;

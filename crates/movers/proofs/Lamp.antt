@@ -19,7 +19,7 @@ use Rattle.net.specs.declared.Key.{Key}
 use Rattle.net.proofs.Tests.{pick-case, all-at, all-i, fails, same-test}
 use Rattle.net.proofs.Tables.{length-table, getD-table, table-cong}
 use Rattle.net.proofs.Keys.{Up, key-of, common-i, common-e, built-i, built-e, live-line}
-use Rattle.movers.specs.Lamp.{moverFrom, lastMover, lastMovers, onTop, lamp}
+use Rattle.movers.specs.Lamp.{moverFrom, lastMover, lastMovers, onTop, lamp, marked, givenBack}
 
 -- ---- the last line that moved a base
 
@@ -74,12 +74,12 @@ module _ (N : ℕ) where
 
   -- a firing: its moved bases get its key
   pub movers-fire : (ls : List LiveLine) (l : LiveLine)
-      → lastMovers N (ls ++ (l ∷ [])) ≡ table N (λ p. pick (inSet (l .moved) p) (l .key .0) (getD (lastMovers N ls) p 0))
+      → lastMovers N (ls ++ (l ∷ [])) ≡ marked N (l .moved) (l .key .0) (lastMovers N ls)
   movers-fire ls l = table-cong N _ _ (λ p h. mover-append p ls (l ∷ []) 0 ∙ ap (pick (inSet (l .moved) p) (l .key .0)) (sym (entry ls p h)))
 
   -- a taking back: its moved bases get the last of the lines before it
   pub movers-undo : (l : LiveLine) (xs ys : List LiveLine) → ((h : LiveLine) → Mem h ys → common (l .moved) (h .moved) ≡ false)
-      → lastMovers N (xs ++ ys) ≡ table N (λ p. pick (inSet (l .moved) p) (lastMover p xs) (getD (lastMovers N (xs ++ l ∷ ys)) p 0))
+      → lastMovers N (xs ++ ys) ≡ givenBack N xs (l .moved) (lastMovers N (xs ++ l ∷ ys))
   movers-undo l xs ys free = table-cong N _ _ (λ p h. mover-append p xs ys 0 ∙ go p h (inSet (l .moved) p) refl)
     where
       go : (p : ℕ) → p < N → (b : Bool) → inSet (l .moved) p ≡ b

@@ -2,3 +2,4 @@
 pub mod Climbing
 pub mod Marks
 pub mod Lamp
+pub mod Alike

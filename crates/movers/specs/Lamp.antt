@@ -23,10 +23,24 @@ lastMover p ls = moverFrom p 0 ls
 abbrev pub lastMovers : ℕ → List LiveLine → List ℕ
 lastMovers n ls = table n (λ p. lastMover p ls)
 
--- Every moved base of the line has its key in the table t. Nothing else of the table is looked at.
+-- Every base of the set m has the key k in the table t. Nothing else of the table is looked at.
+abbrev pub keyAtAll : ℕ → List ℕ → List Bool → ℕ → Bool
+keyAtAll n t m k = all (λ (p : ℕ). not (inSet m p) || eqb (getD t p 0) k) (table n (λ p. p))
+
+-- Every moved base of the line has its key in the table t.
 abbrev pub onTop : ℕ → List ℕ → LiveLine → Bool
-onTop n t l = all (λ (p : ℕ). not (inSet (l .moved) p) || eqb (getD t p 0) (l .key .0)) (table n (λ p. p))
+onTop n t l = keyAtAll n t (l .moved) (l .key .0)
 
 -- The lamp of a key: no where it is not live.
 abbrev pub lamp : ℕ → List ℕ → List LiveLine → Key → Bool
 lamp n t ls k = isLive k ls && onTop n t (lineOf k ls)
+
+-- ---- How the table changes
+
+-- a firing: the key k at every base of its set m; the other entries stay
+abbrev pub marked : ℕ → List Bool → ℕ → List ℕ → List ℕ
+marked n m k t = table n (λ p. pick (inSet m p) k (getD t p 0))
+
+-- a taking back: at every base of its set m the key of the last of the lines that moved it; the other entries stay
+abbrev pub givenBack : ℕ → List LiveLine → List Bool → List ℕ → List ℕ
+givenBack n ls m t = table n (λ p. pick (inSet m p) (lastMover p ls) (getD t p 0))

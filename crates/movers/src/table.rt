@@ -9,7 +9,8 @@ ghost use lib.ListN.{length};
 ghost use Rattle.net.specs.Limits.{maxBases, maxLive};
 ghost use Rattle.net.specs.Tests.{sameList};
 ghost use Rattle.words.specs.Sets.{setOf, meet, minus};
-ghost use Rattle.movers.specs.Tables.{moversIn, marked, givenBack, onTopIn};
+ghost use Rattle.firings.specs.Lines.{lying, linesIn};
+ghost use Rattle.movers.specs.Lamp.{lastMovers, keyAtAll, marked, givenBack};
 use net::Key;
 use net::MAX_BASES;
 use net::MAX_LIVE;
@@ -23,7 +24,7 @@ use words::without_base;
 // Every base of the set gets the key: a turn for each base of the set. The callers' tables have their full length, here and below.
 pub fn mark(table: &mut [u16; MAX_BASES], set: u64, key: Key)
     requires { ⌜ length (now table) ≡ maxBases ⌝ }
-    ensures { λ _. ⌜ now (table .exit) ≡ marked (setOf maxBases set) (key .0) (now (table .entry)) ⌝ }
+    ensures { λ _. ⌜ now (table .exit) ≡ marked maxBases (setOf maxBases set) (key .0) (now (table .entry)) ⌝ }
 {
     let mut left = set;
     while left != 0 {
@@ -37,7 +38,7 @@ pub fn mark(table: &mut [u16; MAX_BASES], set: u64, key: Key)
 fn mark_shared(table: &mut [u16; MAX_BASES], left: u64, moved: u64, key: Key) -> u64
     requires { ⌜ length (now table) ≡ maxBases ⌝ }
     ensures { λ r. ⌜
-        (now (table .exit) ≡ marked (meet (setOf maxBases left) (setOf maxBases moved)) (key .0) (now (table .entry)))
+        (now (table .exit) ≡ marked maxBases (meet (setOf maxBases left) (setOf maxBases moved)) (key .0) (now (table .entry)))
         × (setOf maxBases r ≡ minus (setOf maxBases left) (setOf maxBases moved)) ⌝ }
 {
     let shared = common_bases(left, moved);
@@ -51,8 +52,9 @@ fn pass_four(moved: &[u64; MAX_LIVE], n: usize, set: u64) -> usize
     requires { ⌜ (0 < n) × (n ≤ maxLive) ⌝ }
     ensures { λ r. ⌜ (0 < r) × (r ≤ n) ⌝ }
     ensures { λ r. ⌜
-        ((keys table : List ℕ)
-        → givenBack keys (now (moved .entry)) r (setOf maxBases set) table ≡ givenBack keys (now (moved .entry)) n (setOf maxBases set) table) ⌝ }
+        ((ts keys table : List ℕ)
+        → givenBack maxBases (linesIn maxBases (lying r ts keys (now (moved .entry)))) (setOf maxBases set) table
+        ≡ givenBack maxBases (linesIn maxBases (lying n ts keys (now (moved .entry)))) (setOf maxBases set) table) ⌝ }
 {
     let mut i = n;
     while 4 < i {
@@ -77,7 +79,8 @@ pub fn mark_back<'a>(
 )
     requires { ⌜ (length (now table) ≡ maxBases) × (n ≤ maxLive) ⌝ }
     ensures { λ _. ⌜
-        now (table .exit) ≡ givenBack (now (keys .entry)) (now (moved .entry)) n (setOf maxBases set) (now (table .entry)) ⌝ }
+        ((ts : List ℕ)
+        → now (table .exit) ≡ givenBack maxBases (linesIn maxBases (lying n ts (now (keys .entry)) (now (moved .entry)))) (setOf maxBases set) (now (table .entry))) ⌝ }
 {
     let mut left = set;
     let mut i = n;
@@ -113,7 +116,8 @@ pub fn fits<'a>(
     live: usize,
 ) -> bool
     requires { ⌜ live ≤ maxLive ⌝ }
-    ensures { λ r. ⌜ r ≡ sameList eqb (now (table .entry)) (moversIn (now (keys .entry)) (now (moved .entry)) live) ⌝ }
+    ensures { λ r. ⌜
+        ((ts : List ℕ) → r ≡ sameList eqb (now (table .entry)) (lastMovers maxBases (linesIn maxBases (lying live ts (now (keys .entry)) (now (moved .entry)))))) ⌝ }
 {
     let mut own = [0u16; MAX_BASES];
     mark_back(&mut own, keys, moved, live, u64::MAX);
@@ -122,7 +126,7 @@ pub fn fits<'a>(
 
 // Whether every base of the set has the key in the table: what a lamp looks at. No other entry is read.
 pub fn on_top(table: &[u16; MAX_BASES], set: u64, key: Key) -> bool
-    ensures { λ r. ⌜ r ≡ onTopIn (now (table .entry)) (setOf maxBases set) (key .0) ⌝ }
+    ensures { λ r. ⌜ r ≡ keyAtAll maxBases (now (table .entry)) (setOf maxBases set) (key .0) ⌝ }
 {
     let mut rest = set;
     while rest != 0 {

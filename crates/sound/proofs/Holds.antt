@@ -26,10 +26,10 @@ use Rattle.firings.specs.Lines.{firingsOf}
 use Rattle.firings.specs.Search.{keysIn}
 use Rattle.firings.specs.Form.{climbs}
 use Rattle.firings.specs.declared.Firings.{Firings}
+use Rattle.firings.proofs.Keys.{keys-order}
 use Rattle.firings.proofs.Laid.{Sized, sized-of}
 use Rattle.steps.specs.Placed.{Placed}
 use Rattle.sound.specs.Soundness.{journalIn, formed, soundIn, Passed}
-use Rattle.sound.proofs.Keys.{keys-order}
 
 module _ (s : List ℕ) (m : Marking) (f : Firings) (k : Key) where
   abbrev j : Journal

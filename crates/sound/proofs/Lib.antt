@@ -1,6 +1,5 @@
 -- Laws of soundness on what a record holds.
 pub mod Lines
-pub mod Keys
 pub mod Tests
 pub mod Given
 pub mod Refusing

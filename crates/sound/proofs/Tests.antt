@@ -31,12 +31,12 @@ use Rattle.firings.specs.Lines.{linesIn}
 use Rattle.firings.specs.Form.{usedInForm, firingsInForm, climbs}
 use Rattle.firings.specs.Search.{keysIn}
 use Rattle.firings.specs.declared.Firings.{Firings}
+use Rattle.firings.proofs.Keys.{keys-order}
 use Rattle.marking.proofs.Room.{bonds-fit}
 use Rattle.fresh_marking.specs.Start.{StartFits}
 use Rattle.steps.specs.Placed.{Placed}
 use Rattle.sound.specs.Soundness.{runsIn}
 use Rattle.sound.proofs.Lines.{placed-laid}
-use Rattle.sound.proofs.Keys.{keys-order}
 
 -- ---- the start of an accepted sheet
 

@@ -1,9 +1,8 @@
 -- `lamps::lit_at` meets its contract.
 -- Assumes nothing but the laws of proofs/.
 use mathlib.Core.Path.{_∙_}
-use Prim.Native.Nat.{_+_, _-_}
 use borrow.Author.Needs.{needs}
-use borrow.Author.Tests.{le-ltb, lt-ltb}
+use Rattle.lamps.proofs.Flags.{flag-live, flag-after}
 use Rattle.lamps.proofs.lit_at.Statement.{statement}
 use Rattle.lamps.proofs.lit_at.Tie as tie
 
@@ -23,10 +22,15 @@ on-top-requires : tie.Need-on-top-requires
 on-top-requires c κs = search needs
 
 returns : tie.Need-returns
-returns c = c .on-top .ensures ∙ rw (lt-ltb _ _ (c .before .before .before .if1 .taken))
+returns c =
+    let d : tie.Then1 = c .before .before .before in
+    let s : tie.Start = d .before in
+    λ ts. c .on-top .ensures ∙ flag-live (s .args .live) ts (s .args .keys .now) (s .args .moved .now) (s .pre .1) (s .args .movers .now) (s .args .i) (d .if1 .taken)
 
 returns-2 : tie.Need-returns-2
-returns-2 c = rw (le-ltb _ _ (c .if1 .left))
+returns-2 c =
+    let s : tie.Start = c .before in
+    λ ts. flag-after (s .args .live) ts (s .args .keys .now) (s .args .moved .now) (s .args .movers .now) (s .args .i) (c .if1 .left)
 
 pub lit-at-spec : {M : Type 1} → statement M
 lit-at-spec =

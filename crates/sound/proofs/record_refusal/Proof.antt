@@ -92,7 +92,7 @@ fits-requires c κs = let s : tie.Start = start (from c .before) in live-most (s
 fitted : (d : tie.After-fits2) → d .fits2 .result ≡ moversFit (basesOf (start (from (d .before) .before) .args .sheet .now)) (firings (start (from (d .before) .before))) (start (from (d .before) .before) .args .movers .now)
 fitted d =
     let s : tie.Start = start (from (d .before) .before) in
-    d .fits2 .ensures ∙ fit-is (s .args .sheet .now) (marking s) (firings s) (s .args .movers .now) (accepted (from (d .before))) (runs (d .before .before .before .before .before))
+    d .fits2 .ensures (s .args .transitions .now) ∙ fit-is (s .args .sheet .now) (marking s) (firings s) (s .args .movers .now) (accepted (from (d .before))) (runs (d .before .before .before .before .before))
 
 returns-4 : tie.Need-returns-4
 returns-4 c =

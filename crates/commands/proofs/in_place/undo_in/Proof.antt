@@ -90,7 +90,7 @@ returns-3 c =
     let x : tie.Else2 = k .before .before .before .before in
     let e : tie.Else1 = found x in
     let s : tie.Start = start (e .before) in
-    (done (s .args .sheet .now) (marking s) (firings s) (s .args .given) (s .args .movers .now) (s .args .key) (s .pre .0) _ (e .before .index-of .ensures) (e .if1 .left) (sym (x .before .on-top .ensures) ∙ not-false _ (x .if2 .left)) _ _ _ (c .undo-at .ensures .0) (k .mark-back .ensures) _ _, c .undo-at .ensures .1)
+    (done (s .args .sheet .now) (marking s) (firings s) (s .args .given) (s .args .movers .now) (s .args .key) (s .pre .0) _ (e .before .index-of .ensures) (e .if1 .left) (sym (x .before .on-top .ensures) ∙ not-false _ (x .if2 .left)) _ _ _ (c .undo-at .ensures .0) (k .mark-back .ensures (s .args .transitions .now)) _ _, c .undo-at .ensures .1)
 
 pub undo-in-spec : {M : Type 1} → statement M
 undo-in-spec =

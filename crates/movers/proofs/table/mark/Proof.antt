@@ -10,14 +10,14 @@ use mathlib.Core.Bool.{Bool}
 use Rattle.net.specs.Limits.{maxBases}
 use Rattle.words.specs.Sets.{setOf}
 use Rattle.words.proofs.Bits.{set-size}
-use Rattle.movers.specs.Tables.{marked}
+use Rattle.movers.specs.Lamp.{marked}
 use Rattle.movers.proofs.Marks.{mark-none, mark-turn}
 use Rattle.movers.proofs.table.mark.Statement.{statement}
 use Rattle.movers.proofs.table.mark.Tie as tie
 
 abbrev Inv-loop : tie.InvT-loop
 Inv-loop table₀ set key left₀ table left =
-    (length table ≡ maxBases) × (marked (setOf maxBases left) (key .0) table ≡ marked (setOf maxBases set) (key .0) table₀)
+    (length table ≡ maxBases) × (marked maxBases (setOf maxBases left) (key .0) table ≡ marked maxBases (setOf maxBases set) (key .0) table₀)
 
 abbrev μ-loop : tie.MeasureT-loop
 μ-loop table₀ set key left₀ table left = left
@@ -54,8 +54,8 @@ loop-again c =
     let size = at .loop .inv .0 in
     let wide = set-size maxBases (at .loop .left) in (
       length-set (at .loop .table) p (s .args .key .0) ∙ size,
-      ap (λ (x : List Bool). marked x (s .args .key .0) (set (at .loop .table) p (s .args .key .0))) (c .without-base .ensures .0)
-          ∙ mark-turn m p (s .args .key .0) (at .loop .table) (omega arith) (omega arith) is ∙ at .loop .inv .1,
+      ap (λ (x : List Bool). marked maxBases x (s .args .key .0) (set (at .loop .table) p (s .args .key .0))) (c .without-base .ensures .0)
+          ∙ mark-turn maxBases m p (s .args .key .0) (at .loop .table) (omega arith) (omega arith) is ∙ at .loop .inv .1,
     )
 
 returns : tie.Need-returns Inv-loop μ-loop
@@ -63,7 +63,7 @@ returns c =
     let at : tie.At-loop Inv-loop μ-loop = c .before in
     let s : tie.Start Inv-loop μ-loop = at .before in
     let e : at .loop .left ≡ 0 = c .loop-test .left in
-    sym (mark-none (s .args .key .0) (at .loop .table) (at .loop .inv .0)) ∙ ap (λ (w : ℕ). marked (setOf maxBases w) (s .args .key .0) (at .loop .table)) (sym e) ∙ at .loop .inv .1
+    sym (mark-none maxBases (s .args .key .0) (at .loop .table) (at .loop .inv .0)) ∙ ap (λ (w : ℕ). marked maxBases (setOf maxBases w) (s .args .key .0) (at .loop .table)) (sym e) ∙ at .loop .inv .1
 
 pub mark-spec : {M : Type 1} → statement M
 mark-spec =

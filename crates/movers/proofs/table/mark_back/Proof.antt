@@ -10,26 +10,28 @@ use mathlib.Core.Path.{ap₂}
 use mathlib.Core.Bool.{Bool}
 use Rattle.net.specs.Limits.{maxBases, maxLive}
 use Rattle.words.specs.Sets.{setOf, meet}
-use Rattle.movers.specs.Tables.{givenBack}
+use Rattle.firings.specs.Lines.{lying, firingAt, asLine, linesIn}
+use Rattle.movers.specs.Lamp.{givenBack}
 use Rattle.movers.proofs.Marks.{marked-size, back-turn, back-none}
 use Rattle.movers.proofs.table.mark_back.Statement.{statement}
 use Rattle.movers.proofs.table.mark_back.Tie as tie
 
 abbrev Inv-loop : tie.InvT-loop
 Inv-loop table₀ keys moved n set left₀ i₀ table left i =
-    (i ≤ n) × (n ≤ maxLive) × (length table ≡ maxBases) × (givenBack keys moved i (setOf maxBases left) table ≡ givenBack keys moved n (setOf maxBases set) table₀)
+    (i ≤ n) × (n ≤ maxLive) × (length table ≡ maxBases) ×
+    ((ts : List ℕ) → givenBack maxBases (linesIn maxBases (lying i ts keys moved)) (setOf maxBases left) table ≡ givenBack maxBases (linesIn maxBases (lying n ts keys moved)) (setOf maxBases set) table₀)
 
 abbrev μ-loop : tie.MeasureT-loop
 μ-loop table₀ keys moved n set left₀ i₀ table left i = i
 
 loop-holds : tie.Need-loop-holds Inv-loop μ-loop
-loop-holds c = (search needs, c .pre .1, c .pre .0, refl)
+loop-holds c = (search needs, c .pre .1, c .pre .0, λ ts. refl)
 
 returns : tie.Need-returns Inv-loop μ-loop
 returns c =
     let at : tie.At-loop Inv-loop μ-loop = c .before .before in
     let s = at .before in
-    back-none (s .args .keys .now) (s .args .moved .now) (at .loop .i) (at .loop .left) (at .loop .table) (c .if1 .taken) (at .loop .inv .2) ∙ at .loop .inv .3
+    λ ts. back-none maxBases (linesIn maxBases (lying (at .loop .i) ts (s .args .keys .now) (s .args .moved .now))) (at .loop .left) (at .loop .table) (c .if1 .taken) (at .loop .inv .2) ∙ at .loop .inv .3 ts
 
 pass-four-requires : tie.Need-pass-four-requires Inv-loop μ-loop
 pass-four-requires c κs = search needs
@@ -67,10 +69,10 @@ loop-again c =
     let (marks, rest) = c .mark-shared .ensures in (
       search needs,
       at .loop .inv .1,
-      ap length marks ∙ marked-size (meet m (setOf maxBases (getD ws i 0))) (getD ks i 0) (at .loop .table),
-      ap₂ (givenBack ks ws i) rest marks ∙ back-turn ks ws i m (at .loop .table)
-          ∙ ap (λ (k : ℕ). givenBack ks ws k m (at .loop .table)) (let e : suc i ≡ f .pass-four .result = omega arith in e)
-          ∙ f .pass-four .ensures .1 ks (at .loop .table) ∙ at .loop .inv .3,
+      ap length marks ∙ marked-size maxBases (meet m (setOf maxBases (getD ws i 0))) (getD ks i 0) (at .loop .table),
+      λ ts. ap₂ (givenBack maxBases (linesIn maxBases (lying i ts ks ws))) rest marks ∙ back-turn maxBases (λ j. asLine maxBases (firingAt ts ks ws j)) i m (at .loop .table)
+          ∙ ap (λ (k : ℕ). givenBack maxBases (linesIn maxBases (lying k ts ks ws)) m (at .loop .table)) (let e : suc i ≡ f .pass-four .result = omega arith in e)
+          ∙ f .pass-four .ensures .1 ts ks (at .loop .table) ∙ at .loop .inv .3 ts,
     )
 
 mark-requires : tie.Need-mark-requires Inv-loop μ-loop
@@ -81,7 +83,7 @@ returns-2 c =
     let at : tie.At-loop Inv-loop μ-loop = c .before .before .before in
     let s = at .before in
     let e : at .loop .i ≡ 0 = omega arith in
-    c .mark .ensures ∙ ap (λ (k : ℕ). givenBack (s .args .keys .now) (s .args .moved .now) k (setOf maxBases (at .loop .left)) (at .loop .table)) (sym e) ∙ at .loop .inv .3
+    λ ts. c .mark .ensures ∙ ap (λ (k : ℕ). givenBack maxBases (linesIn maxBases (lying k ts (s .args .keys .now) (s .args .moved .now))) (setOf maxBases (at .loop .left)) (at .loop .table)) (sym e) ∙ at .loop .inv .3 ts
 
 pub mark-back-spec : {M : Type 1} → statement M
 mark-back-spec =

@@ -5,7 +5,8 @@ use Prim.Native.Nat.{ℕ, _-_}
 use mathlib.Core.List.{List}
 use borrow.Author.Needs.{needs}
 use mathlib.Core.Bool.{Bool}
-use Rattle.movers.specs.Tables.{marked}
+use Rattle.net.specs.Limits.{maxBases}
+use Rattle.movers.specs.Lamp.{marked}
 use Rattle.movers.proofs.table.mark_shared.Statement.{statement}
 use Rattle.movers.proofs.table.mark_shared.Tie as tie
 
@@ -22,7 +23,7 @@ returns : tie.Need-returns
 returns c =
     let s = c .before .before .before .before in
     let t : List ℕ = s .args .table .now in
-    (c .before .mark .ensures ∙ ap (λ (m : List Bool). marked m (s .args .key .0) t) (c .before .before .before .common-bases .ensures), c .other-bases .ensures)
+    (c .before .mark .ensures ∙ ap (λ (m : List Bool). marked maxBases m (s .args .key .0) t) (c .before .before .before .common-bases .ensures), c .other-bases .ensures)
 
 pub mark-shared-spec : {M : Type 1} → statement M
 mark-shared-spec =

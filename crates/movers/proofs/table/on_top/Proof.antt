@@ -10,13 +10,13 @@ use mathlib.Core.Bool.{Bool}
 use Rattle.net.specs.Limits.{maxBases}
 use Rattle.words.specs.Sets.{setOf}
 use Rattle.words.proofs.Bits.{set-size}
-use Rattle.movers.specs.Tables.{onTopIn}
+use Rattle.movers.specs.Lamp.{keyAtAll}
 use Rattle.movers.proofs.Marks.{top-none, top-turn, top-off}
 use Rattle.movers.proofs.table.on_top.Statement.{statement}
 use Rattle.movers.proofs.table.on_top.Tie as tie
 
 abbrev Inv-loop : tie.InvT-loop
-Inv-loop table set key rest₀ rest = onTopIn table (setOf maxBases rest) (key .0) ≡ onTopIn table (setOf maxBases set) (key .0)
+Inv-loop table set key rest₀ rest = keyAtAll maxBases table (setOf maxBases rest) (key .0) ≡ keyAtAll maxBases table (setOf maxBases set) (key .0)
 
 abbrev μ-loop : tie.MeasureT-loop
 μ-loop table set key rest₀ rest = rest
@@ -42,7 +42,7 @@ returns c =
     let at : tie.At-loop Inv-loop μ-loop = b .before .before in
     let s : tie.Start Inv-loop μ-loop = at .before in
     let (low, is) = b .lowest-base .ensures in
-    sym (top-off (s .args .table .now) (setOf maxBases (at .loop .rest)) (b .lowest-base .result) (s .args .key .0) low is (c .if1 .taken)) ∙ at .loop .inv
+    sym (top-off maxBases (s .args .table .now) (setOf maxBases (at .loop .rest)) (b .lowest-base .result) (s .args .key .0) low is (c .if1 .taken)) ∙ at .loop .inv
 
 without-base-requires : tie.Need-without-base-requires Inv-loop μ-loop
 without-base-requires c κs = search needs
@@ -57,15 +57,15 @@ loop-again c =
     let s : tie.Start Inv-loop μ-loop = at .before in
     let (low, is) = b .lowest-base .ensures in
     let wide = set-size maxBases (at .loop .rest) in
-    ap (λ (x : List Bool). onTopIn (s .args .table .now) x (s .args .key .0)) (c .without-base .ensures .0)
-    ∙ top-turn (s .args .table .now) (setOf maxBases (at .loop .rest)) (b .lowest-base .result) (s .args .key .0) (omega arith) (c .before .if1 .left) ∙ at .loop .inv
+    ap (λ (x : List Bool). keyAtAll maxBases (s .args .table .now) x (s .args .key .0)) (c .without-base .ensures .0)
+    ∙ top-turn maxBases (s .args .table .now) (setOf maxBases (at .loop .rest)) (b .lowest-base .result) (s .args .key .0) (omega arith) (c .before .if1 .left) ∙ at .loop .inv
 
 returns-2 : tie.Need-returns-2 Inv-loop μ-loop
 returns-2 c =
     let at : tie.At-loop Inv-loop μ-loop = c .before in
     let s : tie.Start Inv-loop μ-loop = at .before in
     let e : at .loop .rest ≡ 0 = c .loop-test .left in
-    sym (top-none (s .args .table .now) (s .args .key .0)) ∙ ap (λ (w : ℕ). onTopIn (s .args .table .now) (setOf maxBases w) (s .args .key .0)) (sym e) ∙ at .loop .inv
+    sym (top-none maxBases (s .args .table .now) (s .args .key .0)) ∙ ap (λ (w : ℕ). keyAtAll maxBases (s .args .table .now) (setOf maxBases w) (s .args .key .0)) (sym e) ∙ at .loop .inv
 
 pub on-top-spec : {M : Type 1} → statement M
 on-top-spec =

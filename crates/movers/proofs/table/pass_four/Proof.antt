@@ -6,20 +6,21 @@ use mathlib.Core.List.{List}
 use Prim.Native.Nat.{ℕ, _<_, _≤_}
 use Rattle.net.specs.Limits.{maxBases, maxLive}
 use Rattle.words.specs.Sets.{setOf}
-use Rattle.movers.specs.Tables.{givenBack}
+use Rattle.firings.specs.Lines.{lying, firingAt, asLine, linesIn}
+use Rattle.movers.specs.Lamp.{givenBack}
 use Rattle.movers.proofs.Marks.{back-passed}
 use Rattle.movers.proofs.table.pass_four.Statement.{statement}
 use Rattle.movers.proofs.table.pass_four.Tie as tie
 
 abbrev Inv-loop : tie.InvT-loop
 Inv-loop moved n set i₀ i =
-    (0 < i) × (i ≤ n) × (n ≤ maxLive) × ((keys table : List ℕ) → givenBack keys moved i (setOf maxBases set) table ≡ givenBack keys moved n (setOf maxBases set) table)
+    (0 < i) × (i ≤ n) × (n ≤ maxLive) × ((ts keys table : List ℕ) → givenBack maxBases (linesIn maxBases (lying i ts keys moved)) (setOf maxBases set) table ≡ givenBack maxBases (linesIn maxBases (lying n ts keys moved)) (setOf maxBases set) table)
 
 abbrev μ-loop : tie.MeasureT-loop
 μ-loop moved n set i₀ i = i
 
 loop-holds : tie.Need-loop-holds Inv-loop μ-loop
-loop-holds c = (c .pre .0, search needs, c .pre .1, λ keys table. refl)
+loop-holds c = (c .pre .0, search needs, c .pre .1, λ ts keys table. refl)
 
 sub-union : tie.Need-sub-union Inv-loop μ-loop
 sub-union c = search needs
@@ -87,8 +88,8 @@ loop-again c =
       search needs,
       search needs,
       search needs,
-      λ keys table. back-passed keys (at .before .args .moved .now) (at .loop .i) (u .before .before .before .loop-test .taken) (u .union .result) (l .union2 .result) (w .union3 .result) (u .union .ensures) (l .union2 .ensures) (w .union3 .ensures) (setOf maxBases (at .before .args .set)) (sym (c .before .shares .ensures) ∙ c .if1 .left) table
-          ∙ at .loop .inv .3 keys table,
+      λ ts keys table. back-passed maxBases (λ j. asLine maxBases (firingAt ts keys (at .before .args .moved .now) j)) (at .loop .i) (u .before .before .before .loop-test .taken) (setOf maxBases (u .union .result)) (setOf maxBases (l .union2 .result)) (setOf maxBases (w .union3 .result)) (u .union .ensures) (l .union2 .ensures) (w .union3 .ensures) (setOf maxBases (at .before .args .set)) (sym (c .before .shares .ensures) ∙ c .if1 .left) table
+          ∙ at .loop .inv .3 ts keys table,
     )
 
 returns-2 : tie.Need-returns-2 Inv-loop μ-loop

@@ -30,7 +30,7 @@ returns-2 : tie.Need-returns-2
 returns-2 c =
     let e : tie.Else1 = c .before .before .before .before .before .before .before in
     let s : tie.Start = start (e .before) in
-    c .is-lit .ensures ∙ lamp-asked (s .args .sheet .now) (s .args .self) (e .before .refusal-on .ensures .1 (e .if1 .left)) (s .args .key)
+    c .is-lit .ensures (s .args .self .firings .transitions) ∙ lamp-asked (s .args .sheet .now) (s .args .self) (e .before .refusal-on .ensures .1 (e .if1 .left)) (s .args .key)
 
 pub can-undo-spec : {M : Type 1} → statement M
 can-undo-spec = tie.close (tie.spec refusal-on-requires returns is-lit-requires returns-2)

@@ -1,6 +1,7 @@
 -- `session::Record::lamps` meets its contract.
 -- Assumes nothing but the laws of proofs/.
 use borrow.Author.Needs.{needs}
+use Rattle.sound.proofs.Holds.{keys-rise}
 use Rattle.session.proofs.Lamps.{lamps-refused, lamps-shown}
 use Rattle.session.proofs.Record.lamps.Statement.{statement}
 use Rattle.session.proofs.Record.lamps.Tie as tie
@@ -21,13 +22,16 @@ returns c =
     lamps-refused (s .args .sheet .now) (s .args .self) _ (d .refusal-on .ensures .0) (c .before .if1 .taken) _ (c .show-none .ensures)
 
 show-requires : tie.Need-show-requires
-show-requires c κs = search needs
+show-requires c κs =
+    let e : tie.Else1 = c .before .before .before .before .before .before in
+    let s : tie.Start = start (e .before) in
+    keys-rise (s .args .sheet .now) (s .args .self .marking) (s .args .self .firings) (s .args .self .given) (e .before .refusal-on .ensures .1 (e .if1 .left) .passed)
 
 returns-2 : tie.Need-returns-2
 returns-2 c =
     let e : tie.Else1 = c .before .before .before .before .before .before .before in
     let s : tie.Start = start (e .before) in
-    lamps-shown (s .args .sheet .now) (s .args .self) (e .before .refusal-on .ensures .1 (e .if1 .left)) _ (c .show .ensures)
+    lamps-shown (s .args .sheet .now) (s .args .self) (e .before .refusal-on .ensures .1 (e .if1 .left)) _ (c .show .ensures (s .args .self .firings .transitions))
 
 pub lamps-spec : {M : Type 1} → statement M
 lamps-spec = tie.close (tie.spec refusal-on-requires show-none-requires returns show-requires returns-2)

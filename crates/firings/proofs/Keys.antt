@@ -1,23 +1,26 @@
--- The keys of the live firings, climbing, are the keys of the lines in order.
+-- The keys of the live firings are those of the lines: climbing where those are in order, and a key is among them where it is live.
 -- Assumes nothing.
-use mathlib.Core.Path.{_≡_, refl, _∙_, ap}
-use mathlib.Core.Bool.{Bool, true, _&&_}
+use mathlib.Core.Path.{_≡_, refl, sym, _∙_, ap}
+use mathlib.Core.Bool.{Bool, true, _&&_, _||_}
 use mathlib.Core.List.{List, [], _∷_}
 use Prim.Native.Nat.{ℕ, _<_}
 use native.Mathlib.Omega.{arith}
-use lib.Dec.{ltb, leb}
+use lib.Dec.{eqb, ltb, leb}
 use borrow.Author.Tests.{ltb-true, lt-ltb}
 use Rattle.net.specs.Limits.{maxKey}
-use Rattle.net.specs.Tests.{all}
+use Rattle.net.specs.Tests.{all, any}
 use Rattle.net.specs.Sorted.{ascends}
-use Rattle.net.specs.Journal.{LiveLine, lineKeys}
+use Rattle.net.specs.Journal.{LiveLine, isLive, lineKeys}
 use Rattle.net.specs.History.{keysInOrder}
+use Rattle.net.specs.declared.Key.{Key}
 use Rattle.net.proofs.Tests.{same-test, and-l, and-r, and-i}
+use Rattle.net.proofs.Keys.{Up}
+use Rattle.net.proofs.History.{ascends-up}
 use Rattle.firings.specs.Lines.{linesIn}
 use Rattle.firings.specs.Form.{climbs}
 use Rattle.firings.specs.Search.{keysIn}
 use Rattle.firings.specs.declared.Firings.{Firings}
 use Rattle.firings.proofs.Search.{keys-of-lines}
 
 abbrev keyBelow : LiveLine → LiveLine → Bool
 keyBelow l k = ltb (l .key .0) (k .key .0)
@@ -57,3 +60,16 @@ keys-order n f =
     let ls : List LiveLine = linesIn n f in
     let same : keysIn (f .live) (f .keys) ≡ lineKeys ls = keys-of-lines n f in
     ap (climbs 0) same ∙ same-test (climbs 0 (lineKeys ls)) (keysInOrder ls) (λ h. and-i (ascends keyBelow ls) (all inRange ls) (climbs-ascends 0 ls h) (climbs-range 0 ls h)) (order-climbs ls)
+
+-- where they climb, so do those of the lines
+pub keys-up : (n : ℕ) (f : Firings) → climbs 0 (keysIn (f .live) (f .keys)) ≡ true → Up (linesIn n f)
+keys-up n f h = ascends-up (linesIn n f) (climbs-ascends 0 (linesIn n f) (ap (climbs 0) (sym (keys-of-lines n f)) ∙ h))
+
+-- ---- a key is live where it is among the keys of the live firings
+
+live-among : (k : Key) (ls : List LiveLine) → any (λ x. eqb x (k .0)) (lineKeys ls) ≡ isLive k ls
+live-among k [] = refl
+live-among k (l ∷ ls) = ap (λ (b : Bool). eqb (l .key .0) (k .0) || b) (live-among k ls)
+
+pub live-keys : (n : ℕ) (f : Firings) (k : Key) → any (λ x. eqb x (k .0)) (keysIn (f .live) (f .keys)) ≡ isLive k (linesIn n f)
+live-keys n f k = ap (any (λ x. eqb x (k .0))) (keys-of-lines n f) ∙ live-among k (linesIn n f)

@@ -1,0 +1,2 @@
+-- Laws of the lamps of live firings.
+pub mod Flags
