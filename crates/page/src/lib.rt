@@ -1,7 +1,7 @@
 // Live firings on a ruled page (document 02, T-01): the list that is handed in, read into plain numbers, and the page of it.
 // The functions that take the list are proved by walks by hand: a slice of structs is not covered.
 ghost use mathlib.Core.Path.{_≡_};
-ghost use mathlib.Core.List.{foldl, [], _∷_, _++_};
+ghost use mathlib.Core.List.{[], _∷_, _++_};
 ghost use lib.Dec.{ltb};
 ghost use lib.ListN.{take};
 ghost use Rattle.net.specs.Tests.{pick};
@@ -51,19 +51,7 @@ fn with_firing(r: Rows, f: Firing) -> Rows
     s
 }
 
-// The rows with those of a lent list after them.
-fn gathered(mut r: Rows, list: &[Firing]) -> Rows
-    ensures { λ s. ⌜ s ≡ foldl withFiring r (now (list .entry)) ⌝ }
-{
-    let mut i = 0;
-    while i < list.len() {
-        r = with_firing(r, list[i]);
-        i += 1;
-    }
-    r
-}
-
-// The page of gathered rows, for a list of n firings.
+// The page of the rows, for a list of n firings.
 fn laid(r: Rows, n: usize, number: u16, buf: &mut [u8]) -> Verdict
     ensures { λ a. ⌜ Laid (rowsIn (r .keys) (r .steps) (r .moved) n) n number (now (buf .entry)) a (now (buf .exit)) ⌝ }
 {
@@ -77,7 +65,12 @@ fn laid(r: Rows, n: usize, number: u16, buf: &mut [u8]) -> Verdict
 pub fn page(list: &[Firing], number: u16, buf: &mut [u8]) -> Verdict
     ensures { λ a. ⌜ Paged (now (list .entry)) number (now (buf .entry)) a (now (buf .exit)) ⌝ }
 {
-    let rows = gathered(no_rows(), list);
+    let mut rows = no_rows();
+    let mut i = 0;
+    while i < list.len() {
+        rows = with_firing(rows, list[i]);
+        i += 1;
+    }
     laid(rows, list.len(), number, buf)
 }
 
