@@ -38,7 +38,7 @@ own-lamp t ls u i h =
 -- lines alike
 module _ (t : List ℕ) (ls ks : List LiveLine) (h : AlikeLines ls ks) where
   flag-alike : (i : ℕ) → flagAt t ls i ≡ flagAt t ks i
-  flag-alike i = ap₂ _&&_ (ap (ltb i) (alike-length ls ks h)) (lamp-alike maxBases t ls ks h (getD ls i noLine .key) ∙ ap (lamp maxBases t ks) (alike-at ls ks h i .1))
+  flag-alike i = ap₂ _&&_ (ap (ltb i) (alike-length ls ks h)) (lamp-alike maxBases t ls ks h (getD ls i noLine .key) ∙ ap (lamp maxBases t ks) (alike-at ls ks h i .key))
 
   pub shown-alike : shown t ls ≡ shown t ks
   shown-alike = λ x. record { answer = Accepted; count = alike-length ls ks h x; lit = table maxLive (λ i. flag-alike i x) }

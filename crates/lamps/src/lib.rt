@@ -24,7 +24,8 @@ pub struct Lamps {
     pub lit: [bool; MAX_LIVE],
 }
 
-// The lamp of the live firing at i; no after the live ones. The keys of a sound record ascend, here and below.
+// The lamp of the live firing at i; no after the live ones. The callers ask below the limit, and the keys of a sound record ascend,
+// here and below.
 fn lit_at<'a>(
     movers: &'a [u16; MAX_BASES],
     keys: &'a [u16; MAX_LIVE],

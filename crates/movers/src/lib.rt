@@ -3,13 +3,16 @@
 pub mod table;
 
 ghost use mathlib.Core.Path.{_≡_};
-ghost use mathlib.Core.Bool.{false};
-ghost use Prim.Native.Nat.{_<_, _≤_};
-ghost use lib.ListN.{getD};
+ghost use mathlib.Core.List.{List};
+ghost use Prim.Native.Nat.{ℕ, suc, _<_, _≤_};
+ghost use lib.ListN.{getD, drop};
 ghost use Rattle.net.specs.Limits.{maxBases, maxLive};
 ghost use Rattle.net.specs.Tests.{pick};
+ghost use Rattle.net.specs.Firing.{inSet};
+ghost use Rattle.net.specs.Journal.{noLine};
 ghost use Rattle.words.specs.Sets.{setOf};
-ghost use Rattle.movers.specs.Movers.{shareAt, lastIn, topIn, topAtIn};
+ghost use Rattle.firings.specs.Lines.{lying, firingAt, asLine, linesIn};
+ghost use Rattle.movers.specs.Tops.{sharing, topOf, LastAt, TopPlace};
 use net::Base;
 use net::MAX_LIVE;
 use words::has_base;
@@ -18,7 +21,7 @@ use words::shares;
 // i where the set has the base p, else `before`.
 fn mover_or(set: u64, p: Base, i: usize, before: usize) -> usize
     requires { ⌜ p < maxBases ⌝ }
-    ensures { λ r. ⌜ r ≡ pick (getD (setOf maxBases set) p false) i before ⌝ }
+    ensures { λ r. ⌜ r ≡ pick (inSet (setOf maxBases set) p) i before ⌝ }
 {
     if has_base(set, p) { i } else { before }
 }
@@ -27,7 +30,7 @@ fn mover_or(set: u64, p: Base, i: usize, before: usize) -> usize
 // than the limit and ask for a base of the sheet, here and below.
 fn last_mover(moved: &[u64; MAX_LIVE], live: usize, p: Base) -> usize
     requires { ⌜ (live ≤ maxLive) × (p < maxBases) ⌝ }
-    ensures { λ r. ⌜ r ≡ lastIn live (now (moved .entry)) p live ⌝ }
+    ensures { λ r. ⌜ ((ts keys : List ℕ) → LastAt p (linesIn maxBases (lying live ts keys (now (moved .entry)))) r) ⌝ }
 {
     let mut last = live;
     let mut i = 0;
@@ -38,10 +41,12 @@ fn last_mover(moved: &[u64; MAX_LIVE], live: usize, p: Base) -> usize
     last
 }
 
-// i where the sets at top and at i have a common base, else top.
+// i where the firings at top and at i moved a common base, else top.
 fn above(moved: &[u64; MAX_LIVE], top: usize, i: usize) -> usize
     requires { ⌜ (top < maxLive) × (i < maxLive) ⌝ }
-    ensures { λ r. ⌜ r ≡ pick (shareAt (now (moved .entry)) top i) i top ⌝ }
+    ensures { λ r. ⌜
+        ((ts keys : List ℕ)
+        → r ≡ pick (sharing (asLine maxBases (firingAt ts keys (now (moved .entry)) top)) (asLine maxBases (firingAt ts keys (now (moved .entry)) i))) i top) ⌝ }
 {
     if shares(moved[top], moved[i]) { i } else { top }
 }
@@ -49,7 +54,11 @@ fn above(moved: &[u64; MAX_LIVE], top: usize, i: usize) -> usize
 // From the firing at c up: the one in hand gives way to each later one that moved a base which it moved.
 fn top_from(moved: &[u64; MAX_LIVE], live: usize, c: usize) -> usize
     requires { ⌜ (c < live) × (live ≤ maxLive) ⌝ }
-    ensures { λ r. ⌜ r ≡ topIn (now (moved .entry)) live c ⌝ }
+    ensures { λ r. ⌜ r < live ⌝ }
+    ensures { λ r. ⌜
+        ((ts keys : List ℕ)
+        → getD (linesIn maxBases (lying live ts keys (now (moved .entry)))) r noLine
+        ≡ topOf sharing (getD (linesIn maxBases (lying live ts keys (now (moved .entry)))) c noLine) (drop (suc c) (linesIn maxBases (lying live ts keys (now (moved .entry)))))) ⌝ }
 {
     let mut top = c;
     let mut i = c + 1;
@@ -64,7 +73,7 @@ fn top_from(moved: &[u64; MAX_LIVE], live: usize, c: usize) -> usize
 // `live` where none moved p.
 pub fn top_at(moved: &[u64; MAX_LIVE], live: usize, p: Base) -> usize
     requires { ⌜ (live ≤ maxLive) × (p < maxBases) ⌝ }
-    ensures { λ r. ⌜ r ≡ topAtIn live (now (moved .entry)) p ⌝ }
+    ensures { λ r. ⌜ ((ts keys : List ℕ) → TopPlace sharing p (linesIn maxBases (lying live ts keys (now (moved .entry)))) r) ⌝ }
 {
     let c = last_mover(moved, live, p);
     if live <= c {

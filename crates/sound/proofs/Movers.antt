@@ -49,7 +49,7 @@ firsts f N k = linesIn N (lying k (f .transitions) (f .keys) (f .moved))
 module _ (n : ℕ) (f : Firings) (few : n ≤ maxBases) (low : (i : ℕ) → i < f .live → getD (f .moved) i 0 < 2 ^ n) where
   pub lines-alike : (k : ℕ) → k ≤ f .live → AlikeLines (firsts f maxBases k) (firsts f n k)
   lines-alike k h = alike-table k (λ i. asLine maxBases (firingAt (f .transitions) (f .keys) (f .moved) i)) (λ i. asLine n (firingAt (f .transitions) (f .keys) (f .moved) i))
-      (λ i u. (refl, refl, λ p. wide-at maxBases n (getD (f .moved) i 0) p few (low i (omega arith))))
+      (λ i u. record { transition = refl; key = refl; moved = λ p. wide-at maxBases n (getD (f .moved) i 0) p few (low i (omega arith)) })
 
   -- given back from the firing at i down
   pub back-set : (i : ℕ) → i < f .live → (t : List ℕ)

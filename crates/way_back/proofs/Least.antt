@@ -24,6 +24,7 @@ use Rattle.net.proofs.Undoing.{accepted-answers, takeAll, take-held, among, amo
 use Rattle.way_back.specs.Ways.{misfit, AtPlaces, HasEffect, ClosedUpward, descending, wrongBase, retreated, noWay, gone, wayBack}
 use Rattle.way_back.specs.Claims.{ClosedSets, LeastWay}
 use Rattle.way_back.proofs.Sets.{descending-mem, descending-falls, accepted-closed, closed-accepted, descending-lines, taken-closed, taken-gives, closed-taken, Wanted, wanted-part, effect-wanted, wanted-effect, moved-there, last-goes}
+use Rattle.movers.specs.Tops.{sharing}
 use Rattle.way_back.proofs.Tops.{LastTop, top-at}
 use Rattle.way_back.proofs.Retreat.{wrong-none, wrong-some, Found, retreats}
 
@@ -92,7 +93,7 @@ module _ (net : Net) (ok : netRule net ≡ true) where
     shared f g k = f k && g k
 
     meets : (f g : Key → Bool) → Wanted net w j f → Wanted net w j g → Wanted net w j (shared f g)
-    meets f g F G = (closed, λ p b. ap (λ (s : Marking). misfit w s p) ends ∙ fails (misfit w (i .marking) p) (λ bad. clash p b bad (top-at p (i .lines) (I .up) (moved-there net ok w i I f F′ p b bad))))
+    meets f g F G = (closed, λ p b. ap (λ (s : Marking). misfit w s p) ends ∙ fails (misfit w (i .marking) p) (λ bad. clash p b bad (top-at sharing p (i .lines) (I .up) (moved-there net ok w i I f F′ p b bad))))
       where
         closed : ClosedUpward (j .lines) (shared f g)
         closed l k m n h c e = and-i (f (k .key)) (g (k .key)) (F .0 l k m n h c (and-l (f (l .key)) (g (l .key)) e)) (G .0 l k m n h c (and-r (f (l .key)) (g (l .key)) e))
@@ -117,7 +118,7 @@ module _ (net : Net) (ok : netRule net ≡ true) where
         G′ = wanted-part net w i j (shared f g) g (λ k e. and-r (f k) (g k) e) lines G
 
         -- the last line that moved a base in a wrong place would be in both, and is left
-        clash : (p : ℕ) → p < net .bases → misfit w (i .marking) p ≡ true → LastTop p (i .lines) → ⊥
+        clash : (p : ℕ) → p < net .bases → misfit w (i .marking) p ≡ true → LastTop sharing p (i .lines) → ⊥
         clash p b bad T =
             let a : f (T .line .key) ≡ true = last-goes net ok w i I f F′ p b bad (T .line) (T .there) (T .moves) (T .last) in
             let c : g (T .line .key) ≡ true = last-goes net ok w i I g G′ p b bad (T .line) (T .there) (T .moves) (T .last) in

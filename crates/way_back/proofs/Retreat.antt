@@ -26,7 +26,8 @@ use Rattle.net.proofs.Journal.{Held, undo-held}
 use Rattle.net.proofs.History.{held-sound}
 use Rattle.net.proofs.Undoing.{Accepted, takeAll}
 use Rattle.net.proofs.Firsts.{first-most, first-before, first-holds, first-inside}
-use Rattle.way_back.specs.Ways.{misfit, AtPlaces, wrongBase, movedIn, topAt, retreat}
+use Rattle.way_back.specs.Ways.{misfit, AtPlaces, wrongBase, retreat}
+use Rattle.movers.specs.Tops.{sharing, movedIn, topAt}
 use Rattle.way_back.proofs.Sets.{clear-undo, Wanted, wanted-part, moved-there, last-goes}
 use Rattle.way_back.proofs.Tops.{LastTop, top-at}
 
@@ -72,9 +73,9 @@ pub record Turn (net : Net) (j : Journal) (t : LiveLine) : Type 0 where
   pub stays : sound net (undoReply net j (t .key) .journal) ≡ true
 
 module _ (net : Net) (ok : netRule net ≡ true) (j : Journal) (H : Held net j) where
-  turn-top : (p : ℕ) → LastTop p (j .lines) → Turn net j (topAt p (j .lines))
+  turn-top : (p : ℕ) → LastTop sharing p (j .lines) → Turn net j (topAt sharing p (j .lines))
   turn-top p T =
-      let t : LiveLine = topAt p (j .lines) in
+      let t : LiveLine = topAt sharing p (j .lines) in
       let m : Mem t (j .lines) = T .top .there in
       let c : clear (undoChecks j (t .key)) ≡ true = clear-undo j (H .up) t m (T .top .free) in
       let I : Held net (undoReply net j (t .key) .journal) = undo-held net ok j (t .key) c H in
@@ -88,8 +89,8 @@ module _ (net : Net) (ok : netRule net ≡ true) (j : Journal) (H : Held net j) 
         stays = held-sound net (undoReply net j (t .key) .journal) I;
       }
 
-  pub turn : (p : ℕ) → movedIn p (j .lines) ≡ true → Turn net j (topAt p (j .lines))
-  turn p m = turn-top p (top-at p (j .lines) (H .up) m)
+  pub turn : (p : ℕ) → movedIn p (j .lines) ≡ true → Turn net j (topAt sharing p (j .lines))
+  turn p m = turn-top p (top-at sharing p (j .lines) (H .up) m)
 
 -- for a loop that follows the search: when it stops, one turn, and what it leaves alone
 module _ (net : Net) (w : List ℕ) where
@@ -99,14 +100,14 @@ module _ (net : Net) (w : List ℕ) where
   retreat-stops (suc n) j (inr e) = rw (or-r (eqb (wrongBase net w (j .marking)) (net .bases)) _ (ap not e))
 
   pub retreat-turns : (n : ℕ) (j : Journal) → wrongBase net w (j .marking) < net .bases → movedIn (wrongBase net w (j .marking)) (j .lines) ≡ true
-      → retreat net w (suc n) j ≡ retreat net w n (undoReply net j (topAt (wrongBase net w (j .marking)) (j .lines) .key) .journal)
+      → retreat net w (suc n) j ≡ retreat net w n (undoReply net j (topAt sharing (wrongBase net w (j .marking)) (j .lines) .key) .journal)
   retreat-turns n j h e = rw (ne-eqb (wrongBase net w (j .marking)) (net .bases) (λ q. omega arith), e)
 
   pub retreat-given : (n : ℕ) (j : Journal) → retreat net w n j .given ≡ j .given
   retreat-given zero j = refl
   retreat-given (suc n) j =
       let p : ℕ = wrongBase net w (j .marking) in
-      let i : Journal = undoReply net j (topAt p (j .lines) .key) .journal in
+      let i : Journal = undoReply net j (topAt sharing p (j .lines) .key) .journal in
       pick-case (λ (k : Journal). k .given ≡ j .given) (eqb p (net .bases) || not (movedIn p (j .lines))) j (retreat net w n i) (λ _. refl) (λ _. retreat-given n i)
 
 -- ---- what a search finds
@@ -149,10 +150,10 @@ module _ (net : Net) (ok : netRule net ≡ true) (w : List ℕ) where
       unmoved f W lt bad ne (inr q) = both (movedIn (wrongBase net w (j .marking)) (j .lines)) (moved-there net ok w j H f W (wrongBase net w (j .marking)) lt bad) q
 
   -- one turn: the top above the last line that moved a base in a wrong place
-  step : (j : Journal) → Held net j → (p : ℕ) → p < net .bases → misfit w (j .marking) p ≡ true → LastTop p (j .lines)
-      → (z : Journal) → Found (undoReply net j (topAt p (j .lines) .key) .journal) z → Found j z
+  step : (j : Journal) → Held net j → (p : ℕ) → p < net .bases → misfit w (j .marking) p ≡ true → LastTop sharing p (j .lines)
+      → (z : Journal) → Found (undoReply net j (topAt sharing p (j .lines) .key) .journal) z → Found j z
   step j H p lt bad T z F =
-      let t : LiveLine = topAt p (j .lines) in
+      let t : LiveLine = topAt sharing p (j .lines) in
       let has : (f : Key → Bool) → Wanted net w j f → f (t .key) ≡ true = λ f W. T .top .above f (W .0) (last-goes net ok w j H f W p lt bad (T .line) (T .there) (T .moves) (T .last)) in
       let on : (f : Key → Bool) → Wanted net w j f → Wanted net w (undoReply net j (t .key) .journal) f =
       λ f W. wanted-part net w (undoReply net j (t .key) .journal) j (λ k. sameKey k (t .key)) f (λ k q. ap f (same-key k (t .key) q) ∙ has f W) refl W in
@@ -164,7 +165,7 @@ module _ (net : Net) (ok : netRule net ≡ true) (w : List ℕ) where
         fits = λ f W. F .fits f (on f W);
       }
     where
-      either : (f : Key → Bool) (k : Key) → f (topAt p (j .lines) .key) ≡ true → (Mem k (F .order) → f k ≡ true) → (k ≡ topAt p (j .lines) .key) ⊎ Mem k (F .order) → f k ≡ true
+      either : (f : Key → Bool) (k : Key) → f (topAt sharing p (j .lines) .key) ≡ true → (Mem k (F .order) → f k ≡ true) → (k ≡ topAt sharing p (j .lines) .key) ⊎ Mem k (F .order) → f k ≡ true
       either f k e h (inl q) = ap f q ∙ e
       either f k e h (inr m) = h m
 
@@ -172,11 +173,11 @@ module _ (net : Net) (ok : netRule net ≡ true) (w : List ℕ) where
   retreats zero j H few = stop j (λ p b e f W. no-lines p (j .lines) few (moved-there net ok w j H f W p b e))
   retreats (suc n) j H few =
       let p : ℕ = wrongBase net w (j .marking) in
-      pick-case (Found j) (eqb p (net .bases) || not (movedIn p (j .lines))) j (retreat net w n (undoReply net j (topAt p (j .lines) .key) .journal))
+      pick-case (Found j) (eqb p (net .bases) || not (movedIn p (j .lines))) j (retreat net w n (undoReply net j (topAt sharing p (j .lines) .key) .journal))
       (λ e. ended j H (elim (or-e (eqb p (net .bases)) (not (movedIn p (j .lines))) e) [ inl q ↦ inl (eqb-true p (net .bases) q) | inr q ↦ inr (not-true (movedIn p (j .lines)) q) ]))
       (λ e.
       let m : movedIn p (j .lines) ≡ true = not-false (movedIn p (j .lines)) (or-no-r (eqb p (net .bases)) _ e) in
       let (lt, bad) = wrong-some net w (j .marking) (eqb-false p (net .bases) (or-no-l _ _ e)) in
       let T = turn net ok j H p m in
       let less = T .fewer in
-      step j H p lt bad (top-at p (j .lines) (H .up) m) _ (retreats n (undoReply net j (topAt p (j .lines) .key) .journal) (T .held) (omega arith)))
+      step j H p lt bad (top-at sharing p (j .lines) (H .up) m) _ (retreats n (undoReply net j (topAt sharing p (j .lines) .key) .journal) (T .held) (omega arith)))

@@ -28,7 +28,8 @@ use Rattle.net.proofs.Keys.{Up, key-of, mem-snoc, up-before, same-key, line-liv
 use Rattle.net.proofs.Journal.{Held, undo-held}
 use Rattle.net.proofs.Undoing.{Accepted, takeAll, accepted-play, accepted-answers, answers-accepted, take-held, among, mem-among, among-mem, linesLeft, left-cong, left-left, take-lines, after, held-after, undo-place}
 use Rattle.layout.specs.Layout.{elsewhere}
-use Rattle.way_back.specs.Ways.{misfit, AtPlaces, TakenBack, HasEffect, ClosedUpward, descendingTo, descending, higher, movedIn}
+use Rattle.way_back.specs.Ways.{misfit, AtPlaces, TakenBack, HasEffect, ClosedUpward, descendingTo, descending, higher}
+use Rattle.movers.specs.Tops.{movedIn}
 
 -- ---- the first n lines, and the members' keys among them
 

@@ -1,11 +1,10 @@
 -- What a call for the way back gives (02, T-04): the keys in descending order, or a refusal with none.
 -- Definitions only.
 use mathlib.Core.List.{List, [], _∷_}
-use Prim.Native.Nat.{ℕ, zero, suc}
-use lib.Dec.{eqb}
-use lib.ListN.{getD, length, replicate}
+use Prim.Native.Nat.{ℕ}
+use lib.ListN.{length, replicate}
 use Rattle.net.specs.Limits.{maxLive}
-use Rattle.net.specs.Tests.{pick, any}
+use Rattle.net.specs.Tests.{pick}
 use Rattle.net.specs.Checks.{Check, check, clear, first}
 use Rattle.net.specs.Net.{Net}
 use Rattle.net.specs.Journal.{Journal, key}
@@ -15,11 +14,6 @@ use Rattle.marking.specs.Form.{padWith}
 use Rattle.way_back.specs.Ways.{noWay, wayBack}
 use Rattle.net.specs.declared.Verdict.the-variants.{Accepted, Refused}
 use Rattle.way_back.specs.declared.WayBack.{WayBack}
-
--- Of the first n numbers of an array, those that are not in `left`, from the last down.
-abbrev pub goneFrom : List ℕ → List ℕ → ℕ → List Key
-goneFrom before left zero = []
-goneFrom before left (suc n) = pick (any (λ x. eqb x (getD before n 0)) left) (goneFrom before left n) (key (getD before n 0) ∷ goneFrom before left n)
 
 -- a set of keys in its order, with their number; every entry after them holds 0
 abbrev pub wayOf : List Key → WayBack

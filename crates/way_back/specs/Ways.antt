@@ -7,12 +7,12 @@ use Prim.Native.Nat.{ℕ, zero, suc, _<_}
 use lib.Dec.{eqb, ltb}
 use lib.ListN.{getD, length}
 use Rattle.causal.specs.Lists.{Mem}
-use Rattle.net.specs.Tests.{pick, any}
+use Rattle.net.specs.Tests.{pick}
 use Rattle.net.specs.Net.{Marking, Net}
-use Rattle.net.specs.Firing.{inSet}
-use Rattle.net.specs.Journal.{LiveLine, Journal, noLine, isLive, common, undoReply, play, answers}
+use Rattle.net.specs.Journal.{LiveLine, Journal, noLine, isLive, undoReply, play, answers}
 use Rattle.net.specs.Claims.{undoCommands, allUndone}
 use Rattle.net.specs.declared.Key.{Key}
+use Rattle.movers.specs.Tops.{sharing, movedIn, topAt}
 use Rattle.layout.specs.Layout as L
 use Rattle.layout.specs.Layout.{astray}
 
@@ -41,9 +41,13 @@ pub record TakenBack (net : Net) (j : Journal) (f : Key → Bool) (z : Marking) 
 abbrev pub HasEffect : Net → List ℕ → Journal → (Key → Bool) → Type 0
 HasEffect net w j f = (z : Marking) × TakenBack net j f z × AtPlaces net w z
 
+-- Closed by a relation: every later live firing that depends directly on a member is a member.
+abbrev pub ClosedBy : (LiveLine → LiveLine → Bool) → List LiveLine → (Key → Bool) → Type 0
+ClosedBy dep ls f = (l k : LiveLine) → Mem l ls → Mem k ls → l .key .0 < k .key .0 → dep l k ≡ true → f (l .key) ≡ true → f (k .key) ≡ true
+
 -- Closed upward: every later live firing with a moved base in common with a member is a member.
 abbrev pub ClosedUpward : List LiveLine → (Key → Bool) → Type 0
-ClosedUpward ls f = (l k : LiveLine) → Mem l ls → Mem k ls → l .key .0 < k .key .0 → common (l .moved) (k .moved) ≡ true → f (l .key) ≡ true → f (k .key) ≡ true
+ClosedUpward ls f = ClosedBy sharing ls f
 
 -- The members' keys among the first n lines, from the last of these lines down to the first: in descending keys, since the
 -- keys of a journal ascend.
@@ -64,28 +68,13 @@ higher k i = ltb (i .0) (k .0)
 abbrev pub wrongBase : Net → List ℕ → Marking → ℕ
 wrongBase net w s = L.wrongBase (net .bases) w (s .places)
 
--- some line moved p
-abbrev pub movedIn : ℕ → List LiveLine → Bool
-movedIn p ls = any (λ (l : LiveLine). inSet (l .moved) p) ls
-
--- Going up from l: the line in hand gives way to each later one with a base in common. What is in hand at the end depends
--- on l, and nothing depends on it.
-abbrev pub topOf : LiveLine → List LiveLine → LiveLine
-topOf l [] = l
-topOf l (k ∷ ks) = topOf (pick (common (l .moved) (k .moved)) k l) ks
-
--- the same from the last line that moved p; said of lines of which one did
-abbrev pub topAt : ℕ → List LiveLine → LiveLine
-topAt p [] = noLine
-topAt p (l ∷ ls) = pick (movedIn p ls) (topAt p ls) (topOf l ls)
-
 -- While a base is not where it is wanted and some line moved it, the top above the last such line is taken back; at most
 -- n times. What is left at the end.
 abbrev pub retreat : Net → List ℕ → ℕ → Journal → Journal
 retreat net w zero j = j
 retreat net w (suc n) j =
     let p : ℕ = wrongBase net w (j .marking) in
-    pick (eqb p (net .bases) || not (movedIn p (j .lines))) j (retreat net w n (undoReply net j (topAt p (j .lines) .key) .journal))
+    pick (eqb p (net .bases) || not (movedIn p (j .lines))) j (retreat net w n (undoReply net j (topAt sharing p (j .lines) .key) .journal))
 
 abbrev pub retreated : Net → List ℕ → Journal → Journal
 retreated net w j = retreat net w (length (j .lines)) j
@@ -94,9 +83,13 @@ retreated net w j = retreat net w (length (j .lines)) j
 abbrev pub noWay : Net → List ℕ → Journal → Bool
 noWay net w j = not (eqb (wrongBase net w (retreated net w j .marking)) (net .bases))
 
+-- the key is not that of a line
+abbrev pub away : List LiveLine → Key → Bool
+away ls k = not (isLive k ls)
+
 -- the key is not live at the end
 abbrev pub gone : Net → List ℕ → Journal → Key → Bool
-gone net w j k = not (isLive k (retreated net w j .lines))
+gone net w j k = away (retreated net w j .lines) k
 
 -- The set to take back (02, T-04), in descending keys.
 abbrev pub wayBack : Net → List ℕ → Journal → List Key

@@ -2,23 +2,24 @@
 // On a copy of what the record holds one firing after another is taken back; those that went are the set.
 ghost use mathlib.Core.Path.{_≡_};
 ghost use mathlib.Core.Bool.{true};
-ghost use Prim.Native.Nat.{_<_, _≤_};
-ghost use lib.Dec.{eqb};
+ghost use mathlib.Core.List.{List};
+ghost use Prim.Native.Nat.{ℕ, _<_, _≤_};
 ghost use lib.ListN.{length};
 ghost use Rattle.net.specs.Limits.{maxLive};
-ghost use Rattle.net.specs.Tests.{pick, any};
-ghost use Rattle.net.specs.Journal.{key};
+ghost use Rattle.net.specs.Tests.{pick};
+ghost use Rattle.net.specs.Journal.{key, isLive};
 ghost use Rattle.net.specs.declared.Key.{Key};
 ghost use Rattle.format.specs.Parts.{basesOf};
 ghost use Rattle.format.specs.NetOf.{netOf};
 ghost use Rattle.bonds.specs.Ends.{bondsIn};
 ghost use Rattle.labels.specs.Labelled.{Labelled};
 ghost use Rattle.marking.specs.Held.{holding};
-ghost use Rattle.firings.specs.Lines.{lying};
+ghost use Rattle.firings.specs.Lines.{lying, linesIn};
 ghost use Rattle.firings.specs.Search.{keysIn};
 ghost use Rattle.firings.specs.Form.{climbs};
 ghost use Rattle.sound.specs.Soundness.{journalIn, Passed};
-ghost use Rattle.way_back.specs.Answer.{goneFrom, wayOf, noWayBack, wayFrom};
+ghost use Rattle.way_back.specs.Ways.{descending, away};
+ghost use Rattle.way_back.specs.Answer.{wayOf, noWayBack, wayFrom};
 ghost use Rattle.way_back.specs.Search.{Searched};
 use firings::Firings;
 use firings::index_of;
@@ -61,7 +62,7 @@ pub fn no_way(n: u8) -> WayBack
 // Whether the key is among the first `live`. The callers hold keys in ascending order, here and below.
 fn is_live(keys: &[u16; MAX_LIVE], live: usize, k: Key) -> bool
     requires { ⌜ (live ≤ maxLive) × (climbs 0 (keysIn live (now keys)) ≡ true) ⌝ }
-    ensures { λ r. ⌜ r ≡ any (λ x. eqb x (k .0)) (keysIn live (now (keys .entry))) ⌝ }
+    ensures { λ r. ⌜ ((n : ℕ) (ts ms : List ℕ) → r ≡ isLive k (linesIn n (lying live ts (now (keys .entry)) ms))) ⌝ }
 {
     let i = index_of(keys, live, k);
     i < live
@@ -89,7 +90,9 @@ fn gone_keys<'a>(
     left: usize,
 ) -> WayBack
     requires { ⌜ (live ≤ maxLive) × (left ≤ maxLive) × (climbs 0 (keysIn left (now after)) ≡ true) ⌝ }
-    ensures { λ r. ⌜ r ≡ wayOf (goneFrom (now (before .entry)) (keysIn left (now (after .entry))) live) ⌝ }
+    ensures { λ r. ⌜
+        ((n : ℕ) (ts ms us vs : List ℕ)
+        → r ≡ wayOf (descending (away (linesIn n (lying left us (now (after .entry)) vs))) (linesIn n (lying live ts (now (before .entry)) ms)))) ⌝ }
 {
     let zero = Key(0);
     let mut keys = [zero; MAX_LIVE];

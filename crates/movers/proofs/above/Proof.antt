@@ -21,10 +21,10 @@ shares-requires : tie.Need-shares-requires
 shares-requires c κs = search needs
 
 returns : tie.Need-returns
-returns c = rw (sym (c .before .shares .ensures) ∙ c .if1 .taken)
+returns c = λ ts keys. rw (sym (c .before .shares .ensures) ∙ c .if1 .taken)
 
 returns-2 : tie.Need-returns-2
-returns-2 c = rw (sym (c .before .shares .ensures) ∙ c .if1 .left)
+returns-2 c = λ ts keys. rw (sym (c .before .shares .ensures) ∙ c .if1 .left)
 
 pub above-spec : {M : Type 1} → statement M
 above-spec =

@@ -74,7 +74,7 @@ returns-2 c =
     let b : tie.After-base-count = w .before .before in
     let s : tie.Start = b .before .before .before in
     let q = w .wrong-base .ensures ∙ ap (λ (n : ℕ). wrongBase n (s .args .layout .now) (s .args .places .now)) (b .base-count .ensures) in
-    (stops-unmoved (s .args .sheet .now) (s .args .layout .now) (marking s) (firings s) _ q (s .args .turns) (rw (t .top-at .ensures) at (c .if2 .taken)), (s .pre .1 .0, s .pre .1 .2))
+    (stops-unmoved (s .args .sheet .now) (s .args .layout .now) (marking s) (firings s) _ q (s .args .turns) (t .top-at .result) (t .top-at .ensures (s .args .transitions .now) (s .args .keys .now)) (c .if2 .taken), (s .pre .1 .0, s .pre .1 .2))
 
 undo-at-requires : tie.Need-undo-at-requires
 undo-at-requires c κs =
@@ -100,7 +100,7 @@ returns-3 c =
     let q = w .wrong-base .ensures ∙ ap (λ (n : ℕ). wrongBase n (s .args .layout .now) (s .args .places .now)) e in
     let lt = x .if1 .left in
     let pos = s .pre .1 .2 in (
-      takes-back (s .args .sheet .now) (s .args .layout .now) (marking s) (firings s) _ q (s .args .turns) pos (omega arith) _ (t .top-at .ensures) (y .if2 .left) _ _ (c .undo-at .ensures .0),
+      takes-back (s .args .sheet .now) (s .args .layout .now) (marking s) (firings s) _ q (s .args .turns) pos (omega arith) (t .top-at .result) (t .top-at .ensures (s .args .transitions .now) (s .args .keys .now)) (y .if2 .left) _ _ (c .undo-at .ensures .0),
       (c .undo-at .ensures .1, omega arith),
     )
 

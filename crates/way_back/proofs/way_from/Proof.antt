@@ -99,7 +99,7 @@ returns-3 c =
     let e = u .before .before .base-count .ensures in
     let w : tie.After-wrong-base = c .before .before .before .before .before in
     let q = rw e at (w .wrong-base .ensures) in
-    λ k P. c .gone-keys .ensures ∙ way-found (s .args .sheet .now) (s .args .layout .now) (s .args .m) (s .args .f) _ (tested u) (x .if1 .left) _ _ (y .retreat-in .ensures) k P _ q (c .before .before .before .before .if2 .left ∙ e)
+    λ k P. c .gone-keys .ensures (basesOf (s .args .sheet .now)) (s .args .f .transitions) (s .args .f .moved) (y .retreat-in .last .1 .1 .1 .1 .1 .1 .1 .0) (y .retreat-in .last .1 .1 .1 .1 .1 .1 .1 .1 .1 .0) ∙ way-found (s .args .sheet .now) (s .args .layout .now) (s .args .m) (s .args .f) _ (tested u) (x .if1 .left) _ _ (y .retreat-in .ensures) k P _ q (c .before .before .before .before .if2 .left ∙ e)
 
 pub way-from-spec : {M : Type 1} → statement M
 way-from-spec =

@@ -1,7 +1,7 @@
 -- `movers::table::mark_shared` meets its contract.
 -- Assumes nothing but the laws of proofs/.
 use mathlib.Core.Path.{ap, _∙_}
-use Prim.Native.Nat.{ℕ, _-_}
+use Prim.Native.Nat.{ℕ}
 use mathlib.Core.List.{List}
 use borrow.Author.Needs.{needs}
 use mathlib.Core.Bool.{Bool}
