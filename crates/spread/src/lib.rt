@@ -46,7 +46,8 @@ fn spread_at(moved: &[u64; MAX_LIVE], live: usize, i: usize) -> u64
     ensures { λ r. ⌜
         ((ts keys : List ℕ) → setOf maxBases r ≡ spreadFrom i (linesIn maxBases (lying live ts keys (now (moved .entry))))) ⌝ }
 {
-    let mut set = moved[i];
+    let own = moved[i];
+    let mut set = own;
     let mut j = i + 1;
     while j < live {
         set = wider(set, moved[j]);

@@ -14,18 +14,18 @@ use Rattle.spread.proofs.spread_at.Statement.{statement}
 use Rattle.spread.proofs.spread_at.Tie as tie
 
 abbrev Inv-loop : tie.InvT-loop
-Inv-loop moved live i set₀ j₀ set j =
+Inv-loop moved live i own set₀ j₀ set j =
     (i + 1 ≤ j) × (j ≤ live) × (live ≤ maxLive)
     × ((ts keys : List ℕ) → spread (setOf maxBases set) (drop j (lines live ts keys moved)) ≡ spreadFrom i (lines live ts keys moved))
 
 abbrev μ-loop : tie.MeasureT-loop
-μ-loop moved live i set₀ j₀ set j = live - j
+μ-loop moved live i own set₀ j₀ set j = live - j
 
-mul-set : tie.Need-mul-set Inv-loop μ-loop
-mul-set c = search needs
+mul-own : tie.Need-mul-own Inv-loop μ-loop
+mul-own c = search needs
 
-element-copy-out-set : tie.Need-element-copy-out-set Inv-loop μ-loop
-element-copy-out-set c = search needs
+element-copy-out-own : tie.Need-element-copy-out-own Inv-loop μ-loop
+element-copy-out-own c = search needs
 
 add-j : tie.Need-add-j Inv-loop μ-loop
 add-j c = search needs
@@ -70,8 +70,8 @@ spread-at-spec =
     (tie.spec
     Inv-loop
     μ-loop
-    mul-set
-    element-copy-out-set
+    mul-own
+    element-copy-out-own
     add-j
     loop-holds
     mul-wider
