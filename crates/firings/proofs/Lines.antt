@@ -2,9 +2,11 @@
 -- Assumes nothing.
 use mathlib.Core.Path.{_≡_, refl, sym, _∙_, ap}
 use mathlib.Core.Bool.{Bool, true, _||_}
-use mathlib.Core.List.{List}
-use Prim.Native.Nat.{ℕ, _^_, _<_, _≤_}
+use mathlib.Core.List.{List, [], _∷_}
+use Prim.Native.Nat.{ℕ, zero, suc, _^_, _<_, _≤_}
+use native.Mathlib.Omega.{arith}
 use lib.ListN.{length, getD}
+use Rattle.net.specs.Tests.{table}
 use Rattle.net.specs.Firing.{inSet}
 use Rattle.net.specs.Journal.{LiveLine, noLine, common}
 use Rattle.net.proofs.Tests.{same-test}
@@ -49,6 +51,33 @@ pub record SameLine (l k : LiveLine) : Type 0 where
   pub transition : l .transition ≡ k .transition
   pub key : l .key ≡ k .key
   pub moved : Alike (l .moved) (k .moved)
+
+pub same-line : (l : LiveLine) → SameLine l l
+same-line l = record { transition = refl; key = refl; moved = λ p. refl }
+
+-- one by one
+abbrev pub SameLines : List LiveLine → List LiveLine → Type 0
+SameLines [] [] = Unit {0}
+SameLines [] (k ∷ ks) = ⊥
+SameLines (l ∷ ls) [] = ⊥
+SameLines (l ∷ ls) (k ∷ ks) = SameLine l k × SameLines ls ks
+
+pub same-table : (n : ℕ) (f g : ℕ → LiveLine) → ((i : ℕ) → i < n → SameLine (f i) (g i)) → SameLines (table n f) (table n g)
+same-table zero f g h = tt
+same-table (suc n) f g h = (h zero (omega arith), same-table n (λ i. f (suc i)) (λ i. g (suc i)) (λ i u. h (suc i) (omega arith)))
+
+pub same-length : (ls ks : List LiveLine) → SameLines ls ks → length ls ≡ length ks
+same-length [] [] h = refl
+same-length [] (k ∷ ks) h = absurd h
+same-length (l ∷ ls) [] h = absurd h
+same-length (l ∷ ls) (k ∷ ks) h = ap suc (same-length ls ks (h .1))
+
+pub same-at : (ls ks : List LiveLine) → SameLines ls ks → (i : ℕ) → SameLine (getD ls i noLine) (getD ks i noLine)
+same-at [] [] h i = same-line noLine
+same-at [] (k ∷ ks) h i = absurd h
+same-at (l ∷ ls) [] h i = absurd h
+same-at (l ∷ ls) (k ∷ ks) h zero = h .0
+same-at (l ∷ ls) (k ∷ ks) h (suc i) = same-at ls ks (h .1) i
 
 -- a firing of bases below n, as a line with N flags and with n
 pub wide-line : (N n : ℕ) (f : Firings) → n ≤ N → (i : ℕ) → getD (f .moved) i 0 < 2 ^ n → SameLine (lineAt N f i) (lineAt n f i)

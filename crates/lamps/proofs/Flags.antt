@@ -22,7 +22,8 @@ use Rattle.firings.proofs.Keys.{keys-up, live-keys}
 use Rattle.firings.proofs.Laid.{mem-at}
 use Rattle.words.specs.Sets.{setOf}
 use Rattle.movers.specs.Lamp.{keyAtAll, onTop, lamp}
-use Rattle.movers.proofs.Alike.{AlikeLines, alike-length, alike-at, lamp-alike}
+use Rattle.firings.proofs.Lines.{SameLines, same-length, same-at}
+use Rattle.movers.proofs.Alike.{lamp-alike}
 use Rattle.lamps.specs.Lamps.{flagAt, litOf, shown}
 use Rattle.net.specs.declared.Verdict.the-variants.{Accepted}
 
@@ -36,12 +37,12 @@ own-lamp t ls u i h =
     sym (λ x. line-live ls l (l .key) m refl x && onTop maxBases t (own-line ls u l m x))
 
 -- lines alike
-module _ (t : List ℕ) (ls ks : List LiveLine) (h : AlikeLines ls ks) where
+module _ (t : List ℕ) (ls ks : List LiveLine) (h : SameLines ls ks) where
   flag-alike : (i : ℕ) → flagAt t ls i ≡ flagAt t ks i
-  flag-alike i = ap₂ _&&_ (ap (ltb i) (alike-length ls ks h)) (lamp-alike maxBases t ls ks h (getD ls i noLine .key) ∙ ap (lamp maxBases t ks) (alike-at ls ks h i .key))
+  flag-alike i = ap₂ _&&_ (ap (ltb i) (same-length ls ks h)) (lamp-alike maxBases t ls ks h (getD ls i noLine .key) ∙ ap (lamp maxBases t ks) (same-at ls ks h i .key))
 
   pub shown-alike : shown t ls ≡ shown t ks
-  shown-alike = λ x. record { answer = Accepted; count = alike-length ls ks h x; lit = table maxLive (λ i. flag-alike i x) }
+  shown-alike = λ x. record { answer = Accepted; count = same-length ls ks h x; lit = table maxLive (λ i. flag-alike i x) }
 
 -- ---- of arrays
 

@@ -11,7 +11,8 @@ use Rattle.net.specs.Journal.{LiveLine}
 use Rattle.net.specs.declared.Key.{Key}
 use Rattle.firings.specs.Lines.{linesIn}
 use Rattle.movers.specs.Lamp.{lamp}
-use Rattle.movers.proofs.Alike.{AlikeLines, lamp-alike}
+use Rattle.firings.proofs.Lines.{SameLines}
+use Rattle.movers.proofs.Alike.{lamp-alike}
 use Rattle.lamps.specs.Lamps.{shown, notShown}
 use Rattle.lamps.specs.declared.Lamps.{Lamps}
 use Rattle.lamps.proofs.Flags.{shown-alike}
@@ -50,7 +51,7 @@ module _ (s : List ℕ) (r : Record) where
     on = passed-clear s (r .marking) (r .firings) (r .given) (r .movers) S []
 
     -- the lines with as many flags as an array holds
-    wide : AlikeLines (linesIn maxBases (r .firings)) ls
+    wide : SameLines (linesIn maxBases (r .firings)) ls
     wide = held-alike s (r .marking) (r .firings) (r .given) (S .passed)
 
     pub lamp-asked : (k : Key) → lamp maxBases (r .movers) (linesIn maxBases (r .firings)) k ≡ canUndo s r k

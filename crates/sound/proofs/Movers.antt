@@ -24,7 +24,8 @@ use Rattle.firings.specs.Form.{usedInForm}
 use Rattle.firings.specs.Lines.{lying, firingAt, asLine, linesIn}
 use Rattle.firings.specs.declared.Firings.{Firings}
 use Rattle.movers.specs.Lamp.{lastMovers, keyAtAll, marked, givenBack}
-use Rattle.movers.proofs.Alike.{AlikeLines, alike-table, last-alike, movers-alike}
+use Rattle.firings.proofs.Lines.{SameLines, same-table, wide-line}
+use Rattle.movers.proofs.Alike.{last-alike, movers-alike}
 use Rattle.sound.specs.Soundness.{formed, soundIn, runsIn, moversFit, Passed}
 use Rattle.sound.proofs.Tests.{low-sets}
 use Rattle.sound.proofs.Holds.{few}
@@ -47,9 +48,9 @@ abbrev pub firsts : Firings → ℕ → ℕ → List LiveLine
 firsts f N k = linesIn N (lying k (f .transitions) (f .keys) (f .moved))
 
 module _ (n : ℕ) (f : Firings) (few : n ≤ maxBases) (low : (i : ℕ) → i < f .live → getD (f .moved) i 0 < 2 ^ n) where
-  pub lines-alike : (k : ℕ) → k ≤ f .live → AlikeLines (firsts f maxBases k) (firsts f n k)
-  lines-alike k h = alike-table k (λ i. asLine maxBases (firingAt (f .transitions) (f .keys) (f .moved) i)) (λ i. asLine n (firingAt (f .transitions) (f .keys) (f .moved) i))
-      (λ i u. record { transition = refl; key = refl; moved = λ p. wide-at maxBases n (getD (f .moved) i 0) p few (low i (omega arith)) })
+  pub lines-alike : (k : ℕ) → k ≤ f .live → SameLines (firsts f maxBases k) (firsts f n k)
+  lines-alike k h = same-table k (λ i. asLine maxBases (firingAt (f .transitions) (f .keys) (f .moved) i)) (λ i. asLine n (firingAt (f .transitions) (f .keys) (f .moved) i))
+      (λ i u. wide-line maxBases n f few i (low i (omega arith)))
 
   -- given back from the firing at i down
   pub back-set : (i : ℕ) → i < f .live → (t : List ℕ)
@@ -75,5 +76,5 @@ sets-low s m f g P =
     low-sets n f (and-l (usedInForm n f) _ (and-r (leb (f .live) maxLive) _ (and-r (inForm n m) _ (and-l (formed n m f) _ (P .sound)))))
 
 -- the lines of a record that passes, whatever flags their sets have
-pub held-alike : (s : List ℕ) (m : Marking) (f : Firings) (g : Key) → Passed s m f g → AlikeLines (linesIn maxBases f) (linesIn (basesOf s) f)
+pub held-alike : (s : List ℕ) (m : Marking) (f : Firings) (g : Key) → Passed s m f g → SameLines (linesIn maxBases f) (linesIn (basesOf s) f)
 held-alike s m f g P = lines-alike (basesOf s) f (few s m f g P) (sets-low s m f g P) (f .live) (let l : f .live ≤ f .live = omega arith in l)

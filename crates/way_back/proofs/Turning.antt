@@ -22,7 +22,8 @@ use Rattle.format.specs.NetOf.{netOf}
 use Rattle.layout.specs.Layout as L
 use Rattle.layout.specs.Layout.{elsewhere, astray}
 use Rattle.movers.specs.Tops.{sharing, movedIn, topAt, TopPlace}
-use Rattle.movers.proofs.Alike.{AlikeLines, moved-alike, place-alike}
+use Rattle.firings.proofs.Lines.{SameLines}
+use Rattle.movers.proofs.Alike.{moved-alike, place-alike}
 use Rattle.spread.proofs.Places.{common-alike}
 use Rattle.marking.specs.declared.Marking.{Marking}
 use Rattle.firings.specs.Lines.{firingAt, asLine, linesIn}
@@ -57,7 +58,7 @@ module _ (s w : List ℕ) (m : Marking) (f : Firings) where
       wrong = ep ∙ wrong-held k
 
       -- the lines with as many flags as an array holds
-      wide : AlikeLines (linesIn maxBases f) ls
+      wide : SameLines (linesIn maxBases f) ls
       wide = held-alike s m f k P
 
       all-right : basesOf s ≤ p → (n : ℕ) → retreat (netOf s) w n (j k) ≡ j k
