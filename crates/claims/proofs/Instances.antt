@@ -47,10 +47,10 @@ use Rattle.session.specs.Commands.{freshOf, zeroRecord, startOf, recordChecks, 
 use Rattle.commands.specs.Answers.{answerOf, wordOf, valueOf}
 use Rattle.session.specs.Runs.{Answered, answered}
 use Rattle.session.specs.Block.{blockChecks, blockOf}
-use Rattle.session.specs.Lamps.{canUndo}
-use Rattle.session.specs.Ways.{wayBackChecks, wayBackOf}
-use Rattle.session.specs.Spread.{spreadChecks, spreadFor}
-use Rattle.session.specs.Listing.{listingFor}
+use Rattle.questions.specs.Lamps.{canUndo}
+use Rattle.questions.specs.Ways.{wayBackChecks, wayBackOf}
+use Rattle.questions.specs.Spread.{spreadChecks, spreadFor}
+use Rattle.questions.specs.Listing.{listingFor}
 use Rattle.session.specs.declared.Record.{Record}
 use Rattle.net.specs.declared.Verdict.the-variants.{Refused}
 use Rattle.session.proofs.Steps.{first-clear}

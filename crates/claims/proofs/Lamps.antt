@@ -39,7 +39,7 @@ use Rattle.lamps.specs.Lamps.{flagAt, shown, notShown}
 use Rattle.lamps.specs.declared.Lamps as L
 use Rattle.session.specs.Records.{heldIn, soundFor}
 use Rattle.session.specs.Commands.{recordChecks, commandChecks, outcomeFor, acceptOf, refusal}
-use Rattle.session.specs.Lamps.{canUndo, lampsOf}
+use Rattle.questions.specs.Lamps.{canUndo, lampsOf}
 use Rattle.session.specs.declared.Record.{Record}
 use Rattle.session.specs.declared.Outcome.{Outcome}
 use Rattle.session.proofs.Steps.{outcome-is}

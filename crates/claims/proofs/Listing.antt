@@ -31,7 +31,7 @@ use Rattle.listing.proofs.Relisted.{ordered-forward, relisted-journal}
 use Rattle.listing.proofs.Filling.{ordered-long}
 use Rattle.session.specs.Records.{heldIn, soundFor}
 use Rattle.session.specs.Commands.{recordChecks}
-use Rattle.session.specs.Listing.{listingFor}
+use Rattle.questions.specs.Listing.{listingFor}
 use Rattle.session.specs.declared.Record.{Record}
 use Rattle.claims.specs.Sessions.{sessionAfter}
 use Rattle.claims.specs.Listing.{stepsIn, numbersIn, stepCommands, Listing, Listings}

@@ -27,7 +27,7 @@ use Rattle.live_list.specs.List.{noFiring, liveAt, listed, notListed}
 use Rattle.live_list.specs.declared.LiveFirings.{LiveFirings}
 use Rattle.session.specs.Records.{heldIn}
 use Rattle.session.specs.Commands.{recordChecks}
-use Rattle.session.specs.Live.{liveFirings}
+use Rattle.questions.specs.Live.{liveFirings}
 use Rattle.session.specs.declared.Record.{Record}
 use Rattle.claims.specs.Sessions.{journalAfter, sessionAfter}
 use Rattle.claims.specs.Pages.{listedLines, LiveListed}

@@ -40,8 +40,8 @@ use Rattle.spread.proofs.Chains.{Facts, depends-mem}
 use Rattle.spread.proofs.Forward.{JournalSlip, slip}
 use Rattle.session.specs.Records.{heldIn, soundFor}
 use Rattle.session.specs.Commands.{recordChecks}
-use Rattle.session.specs.Lamps.{canUndo}
-use Rattle.session.specs.Spread.{spreadChecks, spreadFor}
+use Rattle.questions.specs.Lamps.{canUndo}
+use Rattle.questions.specs.Spread.{spreadChecks, spreadFor}
 use Rattle.session.specs.declared.Record.{Record}
 use Rattle.claims.specs.WayBack.{CanGo}
 use Rattle.claims.specs.Spread.{DependsOn, flagged, goesWith, Slip, Spreads}

@@ -39,7 +39,7 @@ use Rattle.way_back.proofs.Least.{least-way}
 use Rattle.session.specs.Records.{heldIn, soundFor}
 use Rattle.session.specs.Commands.{Result, commandOf}
 use Rattle.session.specs.Runs.{Answered, answered, runOf}
-use Rattle.session.specs.Ways.{wayBackChecks, wayBackOf}
+use Rattle.questions.specs.Ways.{wayBackChecks, wayBackOf}
 use Rattle.session.specs.declared.Record.{Record}
 use Rattle.session.proofs.Steps.{first-clear}
 use Rattle.claims.specs.Serials.{tookBack}

@@ -18,7 +18,7 @@ use Rattle.movers.specs.Lamp.{lamp}
 use Rattle.lamps.specs.Lamps.{notShown}
 use Rattle.session.specs.Records.{heldIn}
 use Rattle.session.specs.Commands.{recordChecks, commandOf}
-use Rattle.session.specs.Lamps.{canUndo, lampsOf}
+use Rattle.questions.specs.Lamps.{canUndo, lampsOf}
 use Rattle.session.specs.declared.Record.{Record}
 
 -- kind 3 with that serial would be answered `undone`

@@ -19,7 +19,7 @@ use Rattle.listing.specs.declared.Listing as L
 use Rattle.net.specs.declared.Verdict.the-variants.{Accepted}
 use Rattle.session.specs.Records.{heldIn}
 use Rattle.session.specs.Commands.{recordChecks}
-use Rattle.session.specs.Listing.{listingFor}
+use Rattle.questions.specs.Listing.{listingFor}
 use Rattle.session.specs.declared.Record.{Record}
 use Rattle.claims.specs.Sessions.{sessionAfter, ForwardRun}
 

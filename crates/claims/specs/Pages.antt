@@ -18,7 +18,7 @@ use Rattle.page_lines.specs.Claims.{PageFits, PagesHold, PrintedWhole, TurnedAw
 use Rattle.page.specs.Rows.{rowOf}
 use Rattle.session.specs.Records.{heldIn}
 use Rattle.session.specs.Commands.{recordChecks}
-use Rattle.session.specs.Live.{liveFirings}
+use Rattle.questions.specs.Live.{liveFirings}
 use Rattle.session.specs.declared.Record.{Record}
 
 -- what a firing record's fields can hold: the step in one byte, the serial in two

@@ -20,8 +20,8 @@ use Rattle.spread.specs.Depends.{Depends, remaining}
 use Rattle.spread.specs.Spread.{notTold}
 use Rattle.net.specs.declared.Verdict.the-variants.{Accepted}
 use Rattle.session.specs.Records.{heldIn}
-use Rattle.session.specs.Lamps.{canUndo}
-use Rattle.session.specs.Spread.{spreadChecks, spreadFor}
+use Rattle.questions.specs.Lamps.{canUndo}
+use Rattle.questions.specs.Spread.{spreadChecks, spreadFor}
 use Rattle.session.specs.declared.Record.{Record}
 use Rattle.claims.specs.Sessions.{ForwardRun}
 use Rattle.claims.specs.WayBack.{CanGo}

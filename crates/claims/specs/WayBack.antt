@@ -24,7 +24,7 @@ use Rattle.way_back.specs.declared.WayBack.{WayBack}
 use Rattle.session.specs.Records.{heldIn}
 use Rattle.session.specs.Commands.{recordChecks}
 use Rattle.session.specs.Runs.{runOf}
-use Rattle.session.specs.Ways.{wayBackChecks, wayBackOf}
+use Rattle.questions.specs.Ways.{wayBackChecks, wayBackOf}
 use Rattle.session.specs.declared.Record.{Record}
 use Rattle.claims.specs.Serials.{tookBack}
 

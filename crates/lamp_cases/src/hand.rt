@@ -10,6 +10,7 @@ use generated::rows::find;
 use generated::rows::part;
 use net::MAX_BASES;
 use net::MAX_LIVE;
+use questions::lamps;
 use session::Record;
 
 // The digits stand before the letters; a digit is what its code leaves of 16, a letter's number from 1 what it leaves of 32.
@@ -46,7 +47,7 @@ fn all_hold(lit: [bool; MAX_LIVE], movers: [u16; MAX_BASES], flags: &[u8], table
 }
 
 fn letters_hold(r: Record, sheet: &[u8], flags: &[u8], table: &[u8]) -> bool {
-    let l = r.lamps(sheet);
+    let l = lamps(r, sheet);
     let a = l.answer;
     let lit = l.lit;
     let movers = r.movers;

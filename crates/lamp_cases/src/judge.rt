@@ -13,6 +13,8 @@ use oracle::key_after;
 use oracle::key_at;
 use oracle::moved_at;
 use oracle::sets::has;
+use questions::can_undo;
+use questions::lamps;
 use session::Record;
 
 // What differs is a sum of these: the answer to a command, the table, a lamp, kind 3 on a copy; of all lamps the number, the count, a
@@ -42,7 +44,7 @@ pub fn unless(same: bool, what: u64) -> u64 {
 // The lamp of a serial, and kind 3 with it on a copy of the record.
 fn lamp_differs(r: Record, sheet: &[u8], key: u64, yes: bool) -> u64 {
     let k = Key((key % 65536) as u16);
-    let lit = r.can_undo(sheet, k);
+    let lit = can_undo(r, sheet, k);
     let bytes = undo_bytes(key);
     let undone = answer_to(r, sheet, &bytes) == oracle::reply(UNDONE, key);
     unless(lit == yes, LAMP) | unless(undone == yes, KIND_3)
@@ -97,7 +99,7 @@ fn flag_of(r: Record, sheet: &[u8], key: u64) -> bool {
         return false;
     }
     let k = Key(key as u16);
-    r.can_undo(sheet, k)
+    can_undo(r, sheet, k)
 }
 
 // Whether each flag is that of the second engine's live firing in that place, and those after the last are no.
@@ -114,7 +116,7 @@ fn flags_hold(r: Record, sheet: &[u8], lit: [bool; MAX_LIVE], s: &[u64]) -> bool
 }
 
 fn lamps_differ(r: Record, sheet: &[u8], s: &[u64], number: u64) -> u64 {
-    let l = r.lamps(sheet);
+    let l = lamps(r, sheet);
     let a = l.answer;
     let lit = l.lit;
     let live = if number == 0 { oracle::live(s) } else { 0 };

@@ -22,6 +22,7 @@ use oracle::FIRED;
 use oracle::broken;
 use oracle::sets::get;
 use oracle::sets::put;
+use questions::listing;
 use session::Record;
 
 // What differs is a sum of these: the answer to a command; of the listing the number, how many steps, the steps; the first of all orders; of
@@ -75,7 +76,7 @@ fn lay_steps(t: &mut [u64], steps: [Transition; MAX_LIVE]) {
 
 // What the call gives, as a list without moved parts.
 pub fn lay_told(t: &mut [u64], r: Record, sheet: &[u8]) {
-    let l = r.listing(sheet);
+    let l = listing(r, sheet);
     let a = l.answer;
     let steps = l.transitions;
     lay_steps(t, steps);

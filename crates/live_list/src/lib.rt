@@ -82,7 +82,7 @@ pub fn list_live<'a>(
 }
 
 // A refused call: no firing, and zeros.
-pub fn list_none(n: u8) -> LiveFirings
+pub fn no_live(n: u8) -> LiveFirings
     ensures { λ r. ⌜ r ≡ notListed n ⌝ }
 {
     let zero = no_firing();

@@ -12,6 +12,7 @@ use format::place_count;
 use forms::has_form;
 use forms::nth_number;
 use net::MAX_LIVE;
+use questions::way_back;
 use session::Record;
 use way_back::WayBack;
 use why::Reason;
@@ -196,7 +197,7 @@ fn put_way(buf: &mut [u8], sheet: &[u8], layout: &[u8], w: WayBack) -> usize {
 
 // The customer's call on a layout.
 fn put_wanted(buf: &mut [u8], r: Record, sheet: &[u8], layout: &[u8]) -> usize {
-    put_way(buf, sheet, layout, r.way_back(sheet, layout))
+    put_way(buf, sheet, layout, way_back(r, sheet, layout))
 }
 
 // ---- the line

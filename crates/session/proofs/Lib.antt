@@ -7,9 +7,4 @@ pub mod Answering
 pub mod Begins
 pub mod Answers
 pub mod Lending
-pub mod Listing
-pub mod Asking
-pub mod Lamps
-pub mod Spread
-pub mod Ordering
 pub mod Blocks

@@ -2,11 +2,6 @@
 pub mod Lent
 pub mod Records
 pub mod Commands
-pub mod Live
-pub mod Ways
-pub mod Lamps
-pub mod Spread
-pub mod Listing
 pub mod Runs
 pub mod Lists
 pub mod Block

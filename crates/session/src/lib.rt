@@ -1,12 +1,7 @@
 // Commands on the session record (document 01, commands, record, tally): the record goes in by value and comes out.
 // A customer's command checks sheet and record first; `run` asks for a sound record.
 pub mod block;
-mod lamp;
-mod list;
-mod live;
 pub mod run;
-mod slip;
-mod ways;
 
 ghost use mathlib.Core.Path.{_≡_};
 ghost use mathlib.Core.List.{[]};
@@ -71,7 +66,7 @@ fn record_with(h: Held) -> Record
 
 impl Record {
     // The first of 1 to 10 that holds; 0 where none does. Every call on a record asks for it first.
-    fn refusal_on(self, sheet: &[u8]) -> u8
+    pub fn refusal_on(self, sheet: &[u8]) -> u8
         ensures { λ r. ⌜ r ≡ first (recordChecks (now (sheet .entry)) self []) ⌝ }
         ensures { λ r. ⌜ (r ≡ 0 → Sound (now (sheet .entry)) self) ⌝ }
     {

@@ -6,6 +6,7 @@ use case_records::heard::commanded;
 use net::Key;
 use net::MAX_BASES;
 use oracle::sets::only;
+use questions::spread;
 use session::Record;
 
 // What differs is a sum of these: the answer to a command; of the call the number, the parts; of the sets of firings that can be taken
@@ -85,7 +86,7 @@ pub struct Told {
 
 pub fn asked(r: Record, sheet: &[u8], key: u64) -> Told {
     let k = Key((key % 65536) as u16);
-    let spread = r.spread(sheet, k);
+    let spread = spread(r, sheet, k);
     let a = spread.answer;
     let parts = spread.parts;
     Told {

@@ -5,6 +5,7 @@ use crate::sum::print_steps;
 use crate::sum::summed;
 use listing::Listing;
 use net::MAX_LIVE;
+use questions::listing;
 use session::Record;
 
 // How often it is asked.
@@ -28,7 +29,7 @@ fn listed(r: Record, sheet: &[u8]) -> u32 {
     let mut sum: u32 = 0;
     let mut i = 0;
     while i < TIMES {
-        let l = r.listing(sheet);
+        let l = listing(r, sheet);
         sum = summed_steps(sum, l);
         i += 1;
     }

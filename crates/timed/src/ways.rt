@@ -5,6 +5,7 @@ use crate::sum::print_sum;
 use crate::sum::summed;
 use format::start_places;
 use net::MAX_LIVE;
+use questions::way_back;
 use session::Record;
 use way_back::WayBack;
 
@@ -30,7 +31,7 @@ fn asked(r: Record, sheet: &[u8]) -> u32 {
     let mut sum: u32 = 0;
     let mut i = 0;
     while i < TIMES {
-        let w = r.way_back(sheet, layout);
+        let w = way_back(r, sheet, layout);
         sum = summed_keys(sum, w);
         i += 1;
     }

@@ -12,6 +12,7 @@ use net::MAX_BASES;
 use net::MAX_LIVE;
 use oracle::UNDONE;
 use oracle::sets::get;
+use questions::way_back;
 use session::Record;
 use way_back::WayBack;
 
@@ -136,7 +137,7 @@ pub fn asked(
     n: usize,
 ) {
     let r = p.session;
-    let w = r.way_back(sheet, layout);
+    let w = way_back(r, sheet, layout);
     let a = w.answer;
     let way = way_differs(w, number, keys, n) | unless(p.holds, BEFORE);
     let going = going_differs(r, sheet, layout, number, keys, n);

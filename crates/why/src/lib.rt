@@ -40,7 +40,6 @@ use reasons::first_present;
 use reasons::first_torn;
 use session::Record;
 use session::command_with;
-use sound::record_refusal;
 use tally::Tally;
 
 // The reason, by the number of document 01's list; what a variant holds is what the number is about.
@@ -229,22 +228,7 @@ fn reason_by(r: Record, sheet: &[u8], bytes: &[u8], n: u8) -> Reason
 pub fn why(r: Record, sheet: &[u8], bytes: &[u8]) -> Reason
     ensures { λ y. ⌜ y ≡ whyOf (now (sheet .entry)) r (now (bytes .entry)) ⌝ }
 {
-    let m = r.marking;
-    let f = r.firings;
-    let movers = r.movers;
-    let refusal = record_refusal(
-        sheet,
-        f.live,
-        &f.transitions,
-        &f.keys,
-        &f.moved,
-        &m.places,
-        m.count,
-        &m.lo,
-        &m.hi,
-        &movers,
-        r.given,
-    );
+    let refusal = r.refusal_on(sheet);
     if refusal == 10 {
         return Reason::Record;
     }

@@ -8,6 +8,7 @@ use crate::put::put_text;
 use live_list::LiveFirings;
 use page::lendable;
 use page::page_of;
+use questions::live_firings;
 use session::Record;
 
 const PAGE: usize = 2091;
@@ -26,7 +27,7 @@ fn page_from(l: LiveFirings, number: u16, buf: &mut [u8]) -> u8 {
 
 // The page of a record's live firings.
 fn page_into(r: Record, sheet: &[u8], number: u16, buf: &mut [u8]) -> u8 {
-    let l = r.live_firings(sheet);
+    let l = live_firings(r, sheet);
     page_from(l, number, buf)
 }
 

@@ -12,12 +12,16 @@ use net::MAX_BASES;
 use net::MAX_LIVE;
 use net::Transition;
 use net::Verdict;
+use questions::can_undo;
+use questions::lamps;
+use questions::listing;
+use questions::spread;
 use session::Record;
 use spread::Spread;
 
 // `lamp yes` or `lamp no`.
 pub fn put_lamp(buf: &mut [u8], r: Record, sheet: &[u8], key: u16) -> usize {
-    let line = if r.can_undo(sheet, Key(key)) { 1 } else { 0 };
+    let line = if can_undo(r, sheet, Key(key)) { 1 } else { 0 };
     put_text(buf, 0, nth_line(b"lamp no\nlamp yes", line))
 }
 
@@ -45,7 +49,7 @@ fn put_shown(buf: &mut [u8], f: Firings, l: Lamps) -> usize {
 // The same of a record, or `refused N`.
 pub fn put_lamps(buf: &mut [u8], r: Record, sheet: &[u8]) -> usize {
     let f = r.firings;
-    put_shown(buf, f, r.lamps(sheet))
+    put_shown(buf, f, lamps(r, sheet))
 }
 
 // `movers` and for each of the first n parts the serial of the last live firing that moved it, 0 where none did.
@@ -81,7 +85,7 @@ fn put_told(buf: &mut [u8], told: Spread) -> usize {
 
 // The parts moved by the firing of a serial or by one that depends on it, or `refused N`.
 pub fn put_spread(buf: &mut [u8], r: Record, sheet: &[u8], key: u16) -> usize {
-    put_told(buf, r.spread(sheet, Key(key)))
+    put_told(buf, spread(r, sheet, Key(key)))
 }
 
 // `listing` and the first step numbers, in the order of the call.
@@ -107,5 +111,5 @@ fn put_listed(buf: &mut [u8], l: Listing) -> usize {
 
 // The steps of the live firings in the order of the listing, or `refused N`.
 pub fn put_listing(buf: &mut [u8], r: Record, sheet: &[u8]) -> usize {
-    put_listed(buf, r.listing(sheet))
+    put_listed(buf, listing(r, sheet))
 }
