@@ -1,8 +1,3 @@
 -- What bytes and answers say; then a law for each return of a command in place.
 pub mod Decoding
 pub mod Saying
-pub mod Refuses
-pub mod Movers
-pub mod Fires
-pub mod Undoes
-pub mod Performing

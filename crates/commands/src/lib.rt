@@ -1,7 +1,5 @@
-// Commands in place (document 01, commands, record, tally): what a command's bytes say, and what an answer says; in_place has what one
-// command does to the arrays of a record that are lent.
-pub mod in_place;
-
+// What a command's bytes say, and what an answer says (document 01, commands, record, tally).
+// What a command in place gives; what it does to a record's arrays is in acting and performing.
 ghost use mathlib.Core.Path.{_≡_};
 ghost use Prim.Native.Nat.{_<_};
 ghost use Rattle.commands.specs.Answers.{decodedOf, wordOf, valueOf, valueBound};
@@ -12,14 +10,14 @@ use net::Key;
 use net::Transition;
 
 // A command that can be read.
-enum Command {
+pub enum Command {
     Fire(Transition),
     UndoLast,
     Undo(Key),
 }
 
 // What three bytes say.
-enum Decoded {
+pub enum Decoded {
     Given(Command),
     Unreadable,
 }
@@ -32,7 +30,7 @@ pub enum Answer {
 }
 
 // What the first three bytes say. Nothing after them is read; bytes that are not there read as 0.
-fn decode(bytes: &[u8]) -> Decoded
+pub fn decode(bytes: &[u8]) -> Decoded
     ensures { λ r. ⌜ r ≡ decodedOf (now (bytes .entry)) ⌝ }
 {
     let kind = byte_at(bytes, 0);
@@ -86,7 +84,7 @@ pub struct Done {
 }
 
 // A refused command changes nothing, and has key 0.
-fn refused_in(n: u8, count: usize, live: usize, given: Key) -> Done
+pub fn refused_in(n: u8, count: usize, live: usize, given: Key) -> Done
     ensures { λ r. ⌜ r ≡ refusedIn n count live given ⌝ }
 {
     Done {

@@ -15,7 +15,6 @@ ghost use Rattle.command_list.specs.Commands.{howMany, commandsIn};
 ghost use Rattle.runs.specs.Running.{heldAt, performedOf, StepDid, RanOn};
 use command_list::command_at;
 use commands::Answer;
-use commands::in_place::perform_in;
 use commands::value_of;
 use commands::word_of;
 use firings::Firings;
@@ -27,6 +26,7 @@ use net::MAX_BASES;
 use net::MAX_BONDS;
 use net::MAX_LIVE;
 use net::Place;
+use performing::perform_in;
 use tally::Tally;
 use tally::counted;
 

@@ -1,5 +1,4 @@
 -- Laws of soundness on what a record holds.
-pub mod Lines
 pub mod Tests
 pub mod Given
 pub mod Refusing

@@ -27,7 +27,7 @@ use Rattle.format.specs.NetOf.{netOf}
 use Rattle.bonds.proofs.Fill.{mem-table}
 use Rattle.marking.specs.Form.{bondsOf}
 use Rattle.firings.proofs.Laid.{mem-at}
-use Rattle.sound.proofs.Lines.{placed-room}
+use Rattle.replaying.proofs.Lines.{placed-room}
 use Rattle.net.proofs.Bonds.{mem-has}
 use Rattle.labels.specs.Labelled.{Within}
 use Rattle.sound.proofs.Holds.{rule, few, placed}

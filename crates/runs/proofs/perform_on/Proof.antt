@@ -1,7 +1,7 @@
 -- `runs::perform_on` meets its contract.
 -- Assumes nothing but the laws of proofs/.
 use borrow.Author.Needs.{needs}
-use Rattle.sound.proofs.Lines.{placed-fits, placed-ends}
+use Rattle.replaying.proofs.Lines.{placed-fits, placed-ends}
 use Rattle.sound.proofs.Holds.{placed}
 use Rattle.runs.proofs.Turns.{performed}
 use Rattle.marking.specs.Held.{holding}

@@ -8,7 +8,7 @@ use Prim.Native.Nat.{ℕ, _-_, _*_, _<_, _≤_}
 use lib.ListN.{length-set, length, take, drop}
 use Rattle.bonds.specs.Ends.{bondsIn}
 use Rattle.labels.specs.Labelled.{Labelled}
-use Rattle.sound.proofs.Lines.{placed-fits, placed-ends}
+use Rattle.replaying.proofs.Lines.{placed-fits, placed-ends}
 use Rattle.sound.proofs.Holds.{placed}
 use Rattle.command_list.specs.Commands.{howMany}
 use Rattle.runs.specs.Running.{heldAt}

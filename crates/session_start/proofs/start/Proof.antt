@@ -2,7 +2,7 @@
 -- Assumes nothing but the laws of proofs/.
 use mathlib.Core.Path.{sym, _∙_}
 use Prim.Native.Nat.{_-_}
-use Rattle.sound.proofs.Tests.{start-fits}
+use Rattle.replaying.proofs.Starts.{start-fits}
 use Rattle.sound.proofs.Refusing.{sheet-clear}
 use Rattle.session_start.proofs.Starting.{refused, started}
 use borrow.Author.Needs.{needs}

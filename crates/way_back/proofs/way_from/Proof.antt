@@ -6,7 +6,7 @@ use mathlib.Core.Path.{_≡_, sym, _∙_}
 use Rattle.format.specs.Parts.{basesOf, placesOf}
 use Rattle.layout.specs.Layout.{unfitLayout}
 use Rattle.sound.proofs.Holds.{placed, few, live-few, keys-rise}
-use Rattle.sound.proofs.Lines.{placed-fits, placed-ends}
+use Rattle.replaying.proofs.Lines.{placed-fits, placed-ends}
 use Rattle.way_back.proofs.Ending.{not-fit, fits, no-way-left, way-found}
 use Rattle.way_back.proofs.way_from.Statement.{statement}
 use Rattle.way_back.proofs.way_from.Tie as tie

@@ -1,7 +1,7 @@
 -- `why::why_torn` meets its contract.
 -- Assumes nothing but the laws of proofs/.
 use borrow.Author.Needs.{needs}
-use Rattle.sound.proofs.Lines.{placed-ends}
+use Rattle.replaying.proofs.Lines.{placed-ends}
 use Rattle.session.specs.Records.{heldIn}
 use Rattle.sound.proofs.Holds.{placed}
 use Rattle.why.proofs.Items.{bonds-ready, entries-low, outs-low, torn-low, pair-is}

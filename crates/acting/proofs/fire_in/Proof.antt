@@ -1,4 +1,4 @@
--- `commands::in_place::fire_in` meets its contract.
+-- `acting::fire_in` meets its contract.
 -- Assumes nothing but the laws of proofs/.
 use borrow.Author.Needs.{needs}
 use native.Mathlib.Omega.{arith}
@@ -9,10 +9,10 @@ use Rattle.marking.specs.declared.Marking.{Marking}
 use Rattle.firings.specs.Lines.{lying}
 use Rattle.firings.specs.declared.Firings.{Firings}
 use Rattle.sound.proofs.Holds.{placed}
-use Rattle.commands.proofs.Movers.{movers-full}
-use Rattle.commands.proofs.Fires.{not-enabled, listed, full, spent, done}
-use Rattle.commands.proofs.in_place.fire_in.Statement.{statement}
-use Rattle.commands.proofs.in_place.fire_in.Tie as tie
+use Rattle.acting.proofs.Movers.{movers-full}
+use Rattle.acting.proofs.Fires.{not-enabled, listed, full, spent, done}
+use Rattle.acting.proofs.fire_in.Statement.{statement}
+use Rattle.acting.proofs.fire_in.Tie as tie
 
 -- the function's start, and what was lent
 abbrev start : tie.After-enable-refusal → tie.Start

@@ -1,4 +1,4 @@
--- `commands::in_place::perform_in` meets its contract.
+-- `performing::perform_in` meets its contract.
 -- Assumes nothing but the laws of proofs/.
 use borrow.Author.Needs.{needs}
 use borrow.Author.Tests.{lt-ltb, le-ltb}
@@ -11,13 +11,13 @@ use Rattle.marking.specs.declared.Marking.{Marking}
 use Rattle.firings.specs.Lines.{lying}
 use Rattle.firings.specs.declared.Firings.{Firings}
 use Rattle.sound.specs.Soundness.{journalIn}
 use Rattle.commands.specs.Doing.{undoAct}
-use Rattle.commands.proofs.Refuses.{did-by, refused-did}
+use Rattle.acting.proofs.Refuses.{did-by, refused-did}
 use Rattle.sound.proofs.Given.{last-given}
 use Rattle.sound.proofs.Holds.{held, live-few}
-use Rattle.commands.proofs.Performing.{cut, unread, given as commanded}
-use Rattle.commands.proofs.in_place.perform_in.Statement.{statement}
-use Rattle.commands.proofs.in_place.perform_in.Tie as tie
+use Rattle.performing.proofs.Performing.{cut, unread, given as commanded}
+use Rattle.performing.proofs.perform_in.Statement.{statement}
+use Rattle.performing.proofs.perform_in.Tie as tie
 
 -- what was lent
 abbrev marking : tie.Start → Marking

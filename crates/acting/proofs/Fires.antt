@@ -28,15 +28,15 @@ use Rattle.marking.specs.declared.Marking.{Marking}
 use Rattle.firings.specs.Lines.{lying, firingsOf}
 use Rattle.firings.proofs.Changes.{with-line}
 use Rattle.movers.specs.Lamp.{marked}
-use Rattle.sound.proofs.Lines.{enabled-first, enabled-listed}
+use Rattle.replaying.proofs.Lines.{enabled-first, enabled-listed}
 use Rattle.sound.proofs.Holds.{live-is, firings-are}
 use Rattle.firings.specs.declared.Firings.{Firings}
 use Rattle.sound.specs.Soundness.{journalIn, Passed, Kept}
 use Rattle.commands.specs.Doing.{fireAct, Did, refusedIn}
 use Rattle.commands.specs.declared.Done.{Done}
 use Rattle.commands.specs.declared.Answer.the-variants.{Fired}
-use Rattle.commands.proofs.Movers.{movers-fired}
-use Rattle.commands.proofs.Refuses.{refused-did}
+use Rattle.acting.proofs.Movers.{movers-fired}
+use Rattle.acting.proofs.Refuses.{refused-did}
 
 module _ (s : List ℕ) (m : Marking) (f : Firings) (g : Key) (ms : List ℕ) (t : Transition) (K : Kept s m f g ms) where
   abbrev P : Passed s m f g

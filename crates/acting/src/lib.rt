@@ -1,22 +1,17 @@
-// Commands in place, on the arrays of a record that are lent: what one command does on a sound record and an accepted sheet.
-// Nothing of either is checked again: the session's calls see to both.
+// Firing and taking back in place (document 01, commands, record, tally): what a command of kind 1, or of kind 2 or 3, does to the arrays
+// of a record that are lent.
 ghost use Rattle.bonds.specs.Ends.{bondsIn};
 ghost use Rattle.labels.specs.Labelled.{Labelled};
-ghost use Rattle.net.specs.Journal.{act};
 ghost use Rattle.format.specs.Parts.{basesOf};
 ghost use Rattle.format.specs.NetOf.{netOf};
 ghost use Rattle.marking.specs.Held.{holding};
 ghost use Rattle.firings.specs.Lines.{lying};
 ghost use Rattle.sound.specs.Soundness.{journalIn, Kept};
 ghost use Rattle.commands.specs.Doing.{fireAct, undoAct, Did};
-use crate::Answer;
-use crate::Command;
-use crate::Decoded;
-use crate::Done;
-use crate::decode;
-use crate::refused_in;
+use commands::Answer;
+use commands::Done;
+use commands::refused_in;
 use firings::index_of;
-use firings::last_key;
 use movers::table::mark;
 use movers::table::mark_back;
 use movers::table::on_top;
@@ -34,7 +29,7 @@ use undoing::undo_at;
 // Kind 1, in place on the arrays of a record: places, bonds, live firings and last movers; the highest key given goes by value, and
 // beside them the labels of the bonds are lent.
 // The record is sound and the sheet accepted, here and below: `perform` and a list of commands see to it.
-fn fire_in(
+pub fn fire_in(
     sheet: &[u8],
     t: Transition,
     places: &mut [Place; MAX_BASES],
@@ -86,7 +81,7 @@ fn fire_in(
 
 // Kinds 2 and 3 in place, of the firing of that key. Whether another was built on it, refusal 20, is what its lamp says: only the
 // last movers of its own bases are looked at (document 02, T-06).
-fn undo_in(
+pub fn undo_in(
     sheet: &[u8],
     key: Key,
     places: &mut [Place; MAX_BASES],
@@ -141,99 +136,5 @@ fn undo_in(
         count: left,
         live: live - 1,
         given: given,
-    }
-}
-
-// A command in place, on a sound record and an accepted sheet: nothing of either is checked again. The labels go with the
-// record from command to command: they are those of its bonds before and after.
-pub fn perform_in(
-    sheet: &[u8],
-    bytes: &[u8],
-    places: &mut [Place; MAX_BASES],
-    count: usize,
-    lo: &mut [Base; MAX_BONDS],
-    hi: &mut [Base; MAX_BONDS],
-    live: usize,
-    transitions: &mut [u8; MAX_LIVE],
-    keys: &mut [u16; MAX_LIVE],
-    moved: &mut [u64; MAX_LIVE],
-    movers: &mut [u16; MAX_BASES],
-    l: &mut [Base; MAX_BASES],
-    members: &mut [u64; MAX_BASES],
-    given: Key,
-) -> Done
-    requires { ⌜
-        Kept (now sheet) (holding (now places) count (now lo) (now hi)) (lying live (now transitions) (now keys) (now moved)) given (now movers)
-        × Labelled (now l) (now members) (bondsIn (now lo) (now hi) count) ⌝ }
-    ensures { λ r. ⌜
-        Did (act (netOf (now (sheet .entry)))
-        (journalIn (basesOf (now (sheet .entry))) (holding (now (places .entry)) count (now (lo .entry)) (now (hi .entry)))
-        (lying live (now (transitions .entry)) (now (keys .entry)) (now (moved .entry))) given) (now (bytes .entry)))
-        r (holding (now (places .exit)) (r .count) (now (lo .exit)) (now (hi .exit))) (lying (r .live) (now (transitions .exit)) (now (keys .exit)) (now (moved .exit))) (now (movers .exit)) ⌝ }
-    ensures { λ r. ⌜ Labelled (now (l .exit)) (now (members .exit)) (bondsIn (now (lo .exit)) (now (hi .exit)) (r .count)) ⌝ }
-{
-    if bytes.len() < 3 {
-        return refused_in(21, count, live, given);
-    }
-    let read = decode(bytes);
-    let Decoded::Given(c) = read else {
-        return refused_in(11, count, live, given);
-    };
-    match c {
-        Command::Fire(t) => {
-            fire_in(
-                sheet,
-                t,
-                places,
-                count,
-                lo,
-                hi,
-                live,
-                transitions,
-                keys,
-                moved,
-                movers,
-                l,
-                members,
-                given,
-            )
-        }
-        Command::Undo(k) => {
-            undo_in(
-                sheet,
-                k,
-                places,
-                count,
-                lo,
-                hi,
-                live,
-                transitions,
-                keys,
-                moved,
-                movers,
-                l,
-                members,
-                given,
-            )
-        }
-        Command::UndoLast => {
-            let k = last_key(keys, live);
-            undo_in(
-                sheet,
-                k,
-                places,
-                count,
-                lo,
-                hi,
-                live,
-                transitions,
-                keys,
-                moved,
-                movers,
-                l,
-                members,
-                given,
-            )
-        }
     }
 }

@@ -1,4 +1,4 @@
--- `sound::runs_to` meets its contract.
+-- `replaying::runs_to` meets its contract.
 -- Assumes nothing but the laws of proofs/.
 use borrow.Author.Needs.{needs}
 use borrow.Author.Tests.{not-true, not-false}
@@ -16,10 +16,10 @@ use Rattle.firings.specs.Lines.{lying, linesIn}
 use Rattle.steps.specs.Placed.{Placed}
 use Rattle.steps.proofs.Readiness.{few-bases}
 use mathlib.Core.List.{List}
-use Rattle.sound.proofs.Lines.{placed-fits, placed-ends, run-refused, run-compared}
-use Rattle.sound.proofs.Tests.{start-placed, start-fits, from-start}
-use Rattle.sound.proofs.runs_to.Statement.{statement}
-use Rattle.sound.proofs.runs_to.Tie as tie
+use Rattle.replaying.proofs.Lines.{placed-fits, placed-ends, run-refused, run-compared}
+use Rattle.replaying.proofs.Starts.{start-placed, start-fits, from-start}
+use Rattle.replaying.proofs.runs_to.Statement.{statement}
+use Rattle.replaying.proofs.runs_to.Tie as tie
 
 -- the function's start, the marking that the run begins with, the lines, and the end that is looked for
 abbrev start : tie.After-start-marking → tie.Start

@@ -1,4 +1,4 @@
--- `sound::replay` meets its contract.
+-- `replaying::replay` meets its contract.
 -- Assumes nothing but the laws of proofs/.
 use borrow.Author.Needs.{needs}
 use borrow.Author.Tests.{not-true, not-false}
@@ -20,9 +20,9 @@ use Rattle.marking.specs.Held.{holding}
 use Rattle.firings.specs.Lines.{lying, linesIn}
 use Rattle.firings.specs.declared.Firings.{Firings}
 use Rattle.steps.specs.Placed.{Placed}
-use Rattle.sound.proofs.Lines.{placed-room, Runs, run-stops, run-goes, placed-goes, run-ends}
-use Rattle.sound.proofs.replay.Statement.{statement}
-use Rattle.sound.proofs.replay.Tie as tie
+use Rattle.replaying.proofs.Lines.{placed-room, Runs, run-stops, run-goes, placed-goes, run-ends}
+use Rattle.replaying.proofs.replay.Statement.{statement}
+use Rattle.replaying.proofs.replay.Tie as tie
 
 -- the run from the start is the run of the firings that are left, from the marking that the arrays hold
 abbrev Inv-loop : tie.InvT-loop

@@ -1,4 +1,4 @@
--- `sound::replay_one` meets its contract.
+-- `replaying::replay_one` meets its contract.
 -- Assumes nothing but the laws of proofs/.
 use borrow.Author.Needs.{needs}
 use mathlib.Core.Path.{refl}
@@ -6,9 +6,9 @@ use mathlib.Core.Bool.{false}
 use Rattle.causal.proofs.Tests.{both}
 use Rattle.marking.specs.declared.Marking.{Marking}
 use Rattle.marking.specs.Held.{holding}
-use Rattle.sound.proofs.Lines.{line-refused, line-listed, line-same, line-fired}
-use Rattle.sound.proofs.replay_one.Statement.{statement}
-use Rattle.sound.proofs.replay_one.Tie as tie
+use Rattle.replaying.proofs.Lines.{line-refused, line-listed, line-same, line-fired}
+use Rattle.replaying.proofs.replay_one.Statement.{statement}
+use Rattle.replaying.proofs.replay_one.Tie as tie
 
 -- the function's start, and the marking that was lent
 abbrev start : tie.After-enable-refusal → tie.Start

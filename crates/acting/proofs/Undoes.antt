@@ -25,11 +25,11 @@ use Rattle.undoing.specs.Back.{UndoneAt}
 use Rattle.undoing.proofs.Places.{place-most, place-dead, Found, place-found}
 use Rattle.undoing.proofs.Backs.{marking-after, firings-after}
 use Rattle.sound.specs.Soundness.{journalIn, Passed, Kept}
 use Rattle.commands.specs.Doing.{undoAct, Did, refusedIn}
 use Rattle.commands.specs.declared.Done.{Done}
 use Rattle.commands.specs.declared.Answer.the-variants.{Undone}
-use Rattle.commands.proofs.Movers.{top-line, top-is, movers-undone}
-use Rattle.commands.proofs.Refuses.{refused-did}
+use Rattle.acting.proofs.Movers.{top-line, top-is, movers-undone}
+use Rattle.acting.proofs.Refuses.{refused-did}
 
 twice : (b : Bool) → b ≡ not (not b)
 twice true = refl

@@ -1,4 +1,4 @@
--- `commands::in_place::undo_in` meets its contract.
+-- `acting::undo_in` meets its contract.
 -- Assumes nothing but the laws of proofs/.
 use borrow.Author.Needs.{needs}
 use borrow.Author.Tests.{not-true, not-false}
@@ -11,10 +11,10 @@ use Rattle.marking.specs.declared.Marking.{Marking}
 use Rattle.firings.specs.Lines.{lying}
 use Rattle.firings.specs.declared.Firings.{Firings}
 use Rattle.sound.proofs.Holds.{live-few, keys-rise}
-use Rattle.commands.proofs.Movers.{movers-full}
-use Rattle.commands.proofs.Undoes.{dead, built, done}
-use Rattle.commands.proofs.in_place.undo_in.Statement.{statement}
-use Rattle.commands.proofs.in_place.undo_in.Tie as tie
+use Rattle.acting.proofs.Movers.{movers-full}
+use Rattle.acting.proofs.Undoes.{dead, built, done}
+use Rattle.acting.proofs.undo_in.Statement.{statement}
+use Rattle.acting.proofs.undo_in.Tie as tie
 
 -- the function's start, and what was lent
 abbrev start : tie.After-index-of → tie.Start

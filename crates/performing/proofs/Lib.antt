@@ -1,0 +1,2 @@
+-- A command by its bytes.
+pub mod Performing

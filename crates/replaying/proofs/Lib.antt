@@ -1,0 +1,3 @@
+-- Running a line forward, and the start.
+pub mod Lines
+pub mod Starts
