@@ -25,8 +25,8 @@ use Rattle.commands.specs.declared.Answer.the-variants.{Fired, Undone, Refused}
 use Rattle.commands.specs.Answers.{wordOf, valueOf}
 use Rattle.session.specs.Lists.{lowRefusal}
 use Rattle.report.specs.Lines.{answerLine, toldLine, LowValue}
+use Rattle.report.specs.Said.{lineAt, LowValues}
 use Rattle.output.specs.Output.{sheetRefused, refusedSheet}
-use Rattle.output.specs.Said.{lineAt, LowValues}
 
 -- ---- The answers' lines
 

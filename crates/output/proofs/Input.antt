@@ -14,7 +14,8 @@ use Rattle.format.specs.NetOf.{netOf}
 use Rattle.sheet.specs.Checks.{sheetChecks}
 use Rattle.sound.proofs.Refusing.{sheet-clear, sheet-held}
 use Rattle.command_list.specs.Commands.{commandsIn}
-use Rattle.output.specs.Output.{maxCommands, sheetIn, commandBytes, refusedSheet, sessionText, output}
+use Rattle.report.specs.Said.{maxCommands}
+use Rattle.output.specs.Output.{sheetIn, commandBytes, refusedSheet, sessionText, output}
 use Rattle.output.specs.Input.{lookedAt, maxInput, Settled}
 
 -- ---- parts of a list's first elements

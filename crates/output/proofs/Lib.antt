@@ -1,6 +1,5 @@
 -- Laws of the whole output.
 pub mod Answers
-pub mod Closing
 pub mod Sessions
 pub mod Starts
 pub mod Samples

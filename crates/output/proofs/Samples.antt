@@ -13,7 +13,8 @@ use Rattle.sheet_arcs.specs.Conditions.{wrongWidth, wrongEntries}
 use Rattle.sheet_bonds.specs.Conditions.{wrongBonds}
 use Rattle.sheet.specs.Checks.{sheetChecks}
 use Rattle.report.specs.Lines.{wordText, answerLine}
-use Rattle.output.specs.Output.{refusedSheet, closingOf, sessionText, output}
+use Rattle.final_lines.specs.Final.{closingOf}
+use Rattle.output.specs.Output.{refusedSheet, sessionText, output}
 use Rattle.output.specs.Samples.{inputA, outputA}
 
 -- sheet A's session prints what document 01 has

@@ -41,8 +41,9 @@ use Rattle.session.proofs.Turns.{run-length, ran-sound, tally-follows}
 use Rattle.session.proofs.Values.{all-low}
 use Rattle.report.specs.Lines.{toldLine}
 use Rattle.runs.specs.Running.{tallied}
-use Rattle.output.specs.Output.{answerLines, closingOf, sessionText}
-use Rattle.output.specs.Said.{lineAt, linesUpto, LowValues}
+use Rattle.final_lines.specs.Final.{closingOf}
+use Rattle.report.specs.Said.{lineAt, linesUpto, LowValues}
+use Rattle.output.specs.Output.{answerLines, sessionText}
 use Rattle.output.proofs.Answers.{answeredLines, told-lines, low-values}
 
 -- ---- Lists that were stored from the front of a longer one

@@ -18,7 +18,8 @@ use Rattle.net.specs.declared.Verdict.{Verdict}
 use Rattle.net.specs.declared.Verdict.the-variants.{Accepted, Refused}
 use Rattle.session.specs.declared.Start.{Start}
 use Rattle.command_list.specs.Commands.{commandsIn}
-use Rattle.output.specs.Output.{maxCommands, sheetIn, commandBytes, refusedSheet, sessionText, output}
+use Rattle.report.specs.Said.{maxCommands}
+use Rattle.output.specs.Output.{sheetIn, commandBytes, refusedSheet, sessionText, output}
 
 isStarted : Verdict → Bool
 isStarted Accepted = true

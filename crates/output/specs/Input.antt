@@ -7,7 +7,8 @@ use Rattle.net.specs.Tests.{pick}
 use Rattle.net.specs.Checks.{clear}
 use Rattle.format.specs.Bytes.{wordAt}
 use Rattle.sheet.specs.Checks.{sheetChecks}
-use Rattle.output.specs.Output.{maxCommands, sheetIn, output}
+use Rattle.report.specs.Said.{maxCommands}
+use Rattle.output.specs.Output.{sheetIn, output}
 
 -- how many bytes: the two of the length, the sheet, and behind an accepted one the commands
 unfoldable pub lookedAt : List ℕ → ℕ

@@ -7,29 +7,25 @@ use Rattle.net.specs.Tests.{pick}
 use Rattle.net.specs.Checks.{clear, first}
 use Rattle.net.specs.Net.{Net}
 use Rattle.net.specs.Journal as J
-use Rattle.net.specs.Journal.{Journal, lineKeys, begin, play, answers}
+use Rattle.net.specs.Journal.{begin, play, answers}
 use Rattle.format.specs.Bytes.{wordAt}
 use Rattle.format.specs.NetOf.{netOf}
 use Rattle.sheet.specs.Checks.{sheetChecks}
 use Rattle.tally.specs.Counts.{zeroTally}
-use Rattle.tally.specs.declared.Tally.{Tally}
 use Rattle.text.specs.Decimal.{decimal}
 use Rattle.text.specs.Ascii.{ascii}
-use Rattle.closing.specs.Closing.{placesLine, bondLines, liveLine, tallyLine}
 use Rattle.commands.specs.Answers.{answerOf, keyOf}
 use Rattle.command_list.specs.Commands.{commandsIn}
 use Rattle.runs.specs.Running.{tallied}
-use Rattle.report.specs.Lines.{toldLine}
+use Rattle.report.specs.Lines.{minLine, toldLine}
+use Rattle.report.specs.Said.{maxCommands}
+use Rattle.final_lines.specs.Final.{closingOf, closingRoom}
 
 -- ---- The input: the sheet's length in two bytes, the sheet, the commands
 
 -- Missing bytes shorten the sheet; fewer than two bytes of input mean an empty one.
 abbrev pub sheetIn : List ℕ → List ℕ
 sheetIn input = take (wordAt input 0) (drop 2 input)
-
--- how many commands are read
-abbrev pub maxCommands : ℕ
-maxCommands = 65535
 
 -- the commands' bytes: what comes after the sheet, and of that as many bytes as that many commands have
 abbrev pub commandBytes : List ℕ → List ℕ
@@ -51,10 +47,6 @@ abbrev pub answerLines : ℕ → List J.Answer → List ℕ
 answerLines k [] = []
 answerLines k (a ∷ rest) = toldLine (suc k) (answerOf a) (keyOf a) ++ answerLines (suc k) rest
 
--- places, bonds, live firings, tally
-unfoldable pub closingOf : Journal → Tally → List ℕ
-closingOf j t = placesLine (j .marking .places) ++ bondLines (j .marking .bonds) ++ liveLine (lineKeys (j .lines)) ++ tallyLine (t .fired) (t .undone) (t .refused)
-
 unfoldable pub sessionText : Net → List (List ℕ) → List ℕ
 sessionText net cs = answerLines 0 (answers net cs (begin net)) ++ closingOf (play net cs (begin net)) (tallied (answers net cs (begin net)) zeroTally)
 
@@ -65,3 +57,7 @@ unfoldable pub output : List ℕ → List ℕ
 output input =
     let s : List ℕ = sheetIn input in
     pick (clear (sheetChecks s)) (sessionText (netOf s) (commandsIn (commandBytes input))) (refusedSheet (first (sheetChecks s)))
+
+-- the room for the longest output
+abbrev pub maxOutput : ℕ
+maxOutput = minLine * maxCommands + closingRoom

@@ -4,29 +4,19 @@ ghost use mathlib.Core.Path.{_≡_};
 ghost use mathlib.Core.Bool.{true};
 ghost use Prim.Native.Nat.{_+_, _*_, _<_, _≤_};
 ghost use lib.ListN.{length, take, drop};
-ghost use Rattle.net.specs.Limits.{maxBases, maxBonds, maxLive};
 ghost use Rattle.net.specs.Checks.{clear};
 ghost use Rattle.format.specs.NetOf.{netOf};
 ghost use Rattle.sheet.specs.Checks.{sheetChecks};
-ghost use Rattle.firings.specs.Search.{keysIn};
-ghost use Rattle.closing.specs.Closing.{placesLine, liveLine};
-ghost use Rattle.sound.specs.Soundness.{journalIn};
 ghost use Rattle.session.specs.Commands.{freshOf};
 ghost use Rattle.command_list.specs.Commands.{commandsIn};
-ghost use Rattle.text.specs.Writes.{Wrote, Filled};
-ghost use Rattle.report.specs.Lines.{minLine};
-ghost use Rattle.output.specs.Output.{maxCommands, sheetIn, commandBytes, refusedSheet, closingOf, sessionText, output};
-ghost use Rattle.output.specs.Said.{linesUpto, LowValues, placesRoom, liveRoom, closingRoom, maxOutput};
-use closing::put_bonds;
-use closing::put_live;
-use closing::put_places;
-use closing::put_tally;
+ghost use Rattle.text.specs.Writes.{Filled};
+ghost use Rattle.report.specs.Said.{maxCommands};
+ghost use Rattle.output.specs.Output.{sheetIn, commandBytes, refusedSheet, sessionText, output, maxOutput};
+use final_lines::put_closing;
 use format::base_count;
 use format::word_at;
-use net::MAX_BASES;
-use net::Place;
 use net::Verdict;
-use report::put_line;
+use report::put_answers;
 use session::Record;
 use session::run::run;
 use session_start::start;
@@ -70,73 +60,6 @@ fn commands_in<'a>(input: &'a [u8]) -> &'a [u8]
 {
     let length = word_at(input, 0);
     bytes_from(input, 2 + length, COMMAND_BYTES)
-}
-
-// The first n answers, numbered from 1. `put_session` sees to the room and to the values.
-fn put_answers(buf: &mut [u8], words: &[u8], values: &[u16], n: usize) -> usize
-    requires { ⌜
-        (minLine * n ≤ length (now buf)) × (n ≤ maxCommands) × (n ≤ length (now words)) × (n ≤ length (now values))
-        × LowValues (now words) (now values) n ⌝ }
-    ensures { λ r. ⌜ Filled (linesUpto (now (words .entry)) (now (values .entry)) n) (now (buf .entry)) r (now (buf .exit)) ⌝ }
-    ensures { λ r. ⌜ r ≤ minLine * n ⌝ }
-{
-    let mut pos = 0;
-    let mut i = 0;
-    while i < n {
-        pos = put_line(buf, pos, (i + 1) as u32, words[i], values[i]);
-        i += 1;
-    }
-    pos
-}
-
-// The places as wider numbers.
-fn widened(places: [Place; MAX_BASES]) -> [u16; MAX_BASES]
-    ensures { λ r. ⌜ r ≡ places ⌝ }
-{
-    let mut wide = [0u16; MAX_BASES];
-    let mut i = 0;
-    while i < MAX_BASES {
-        wide[i] = places[i] as u16;
-        i += 1;
-    }
-    wide
-}
-
-// `places` and the places of the first n bases. `put_closing` sees to the room, as for the function below.
-fn put_base_places(buf: &mut [u8], at: usize, places: [Place; MAX_BASES], n: usize) -> usize
-    requires { ⌜ (at + placesRoom ≤ length (now buf)) × (n ≤ maxBases) ⌝ }
-    ensures { λ r. ⌜ Wrote (placesLine (take n places)) at (now (buf .entry)) r (now (buf .exit)) ⌝ }
-    ensures { λ r. ⌜ r ≤ at + placesRoom ⌝ }
-{
-    let wide = widened(places);
-    put_places(buf, at, &wide[..n])
-}
-
-// `live` and the first n keys.
-fn put_live_keys(buf: &mut [u8], at: usize, keys: &[u16], n: usize) -> usize
-    requires { ⌜ (at + liveRoom ≤ length (now buf)) × (n ≤ maxLive) × (n ≤ length (now keys)) ⌝ }
-    ensures { λ r. ⌜ Wrote (liveLine (keysIn n (now (keys .entry)))) at (now (buf .entry)) r (now (buf .exit)) ⌝ }
-    ensures { λ r. ⌜ r ≤ at + liveRoom ⌝ }
-{
-    put_live(buf, at, &keys[..n])
-}
-
-// The closing lines of what a record holds. `put_session` has a sound record and sees to the room.
-fn put_closing(buf: &mut [u8], at: usize, bases: usize, r: Record, t: Tally) -> usize
-    requires { ⌜ (at + closingRoom ≤ length (now buf)) × (bases ≤ maxBases) × (r .marking .count ≤ maxBonds) × (r .firings .live ≤ maxLive) ⌝ }
-    ensures { λ x. ⌜ Wrote (closingOf (journalIn bases (r .marking) (r .firings) (r .given)) t) at (now (buf .entry)) x (now (buf .exit)) ⌝ }
-    ensures { λ x. ⌜ x ≤ at + closingRoom ⌝ }
-{
-    let m = r.marking;
-    let places = m.places;
-    let lo = m.lo;
-    let hi = m.hi;
-    let count = m.count;
-    let f = r.firings;
-    let a = put_base_places(buf, at, places, bases);
-    let b = put_bonds(buf, a, &lo, &hi, count);
-    let c = put_live_keys(buf, b, &f.keys, f.live);
-    put_tally(buf, c, t.fired, t.undone, t.refused)
 }
 
 // Room for a word and for a value of each command. Only the lengths matter.

@@ -1,10 +1,11 @@
 // The answer line of the exam program, into a lent buffer: the command's number, what became of it, and its serial or its
 // refusal's number (01, the exam program).
 ghost use mathlib.Core.Path.{_≡_};
-ghost use Prim.Native.Nat.{_+_, _≤_, _<_};
+ghost use Prim.Native.Nat.{_+_, _≤_, _<_, _*_};
 ghost use lib.ListN.{length};
-ghost use Rattle.text.specs.Writes.{Wrote};
+ghost use Rattle.text.specs.Writes.{Wrote, Filled};
 ghost use Rattle.report.specs.Lines.{wordText, answerLine, LowValue, minLine, writtenOf, bufferOf};
+ghost use Rattle.report.specs.Said.{maxCommands, linesUpto, LowValues};
 use commands::Answer;
 use commands::value_of;
 use commands::word_of;
@@ -68,4 +69,21 @@ pub fn answer_line(buf: &mut [u8], number: u32, answer: Answer, key: Key) -> Wri
         refusal: 0,
         length: end,
     }
+}
+
+// The first n answers, numbered from 1. `put_session` sees to the room and to the values.
+pub fn put_answers(buf: &mut [u8], words: &[u8], values: &[u16], n: usize) -> usize
+    requires { ⌜
+        (minLine * n ≤ length (now buf)) × (n ≤ maxCommands) × (n ≤ length (now words)) × (n ≤ length (now values))
+        × LowValues (now words) (now values) n ⌝ }
+    ensures { λ r. ⌜ Filled (linesUpto (now (words .entry)) (now (values .entry)) n) (now (buf .entry)) r (now (buf .exit)) ⌝ }
+    ensures { λ r. ⌜ r ≤ minLine * n ⌝ }
+{
+    let mut pos = 0;
+    let mut i = 0;
+    while i < n {
+        pos = put_line(buf, pos, (i + 1) as u32, words[i], values[i]);
+        i += 1;
+    }
+    pos
 }

@@ -5,7 +5,7 @@ use mathlib.Core.Path.{_≡_, ap, _∙_}
 use mathlib.Core.List.{List}
 use Prim.Native.Nat.{ℕ, _+_, _*_}
 use lib.ListN.{take, drop}
-use Rattle.output.specs.Output.{maxCommands}
+use Rattle.report.specs.Said.{maxCommands}
 use Rattle.output.proofs.commands_in.Statement.{statement}
 use Rattle.output.proofs.commands_in.Tie as tie
 

@@ -5,7 +5,7 @@ use native.Mathlib.Omega.{arith}
 use Prim.Native.Nat.{_≤_}
 use Rattle.sheet.proofs.Accepted.{promised}
 use Rattle.command_list.specs.Commands.{howMany}
-use Rattle.output.specs.Output.{maxCommands}
+use Rattle.report.specs.Said.{maxCommands}
 use Rattle.output.proofs.Sessions.{Ran, starts-sound, values-low, live-low, bonds-low, session-pieces}
 use Rattle.output.proofs.put_session.Statement.{statement}
 use Rattle.output.proofs.put_session.Tie as tie

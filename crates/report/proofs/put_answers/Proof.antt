@@ -1,4 +1,4 @@
--- `output::put_answers` meets its contract.
+-- `report::put_answers` meets its contract.
 -- Assumes nothing but the laws of proofs/.
 use borrow.Author.Needs.{needs}
 use native.Mathlib.Omega.{arith}
@@ -10,11 +10,10 @@ use Rattle.net.specs.Tests.{table}
 use Rattle.text.specs.Joined.{joined}
 use Rattle.text.proofs.Writes.{Written, written-none}
 use Rattle.text.proofs.Joined.{table-written}
 use Rattle.report.specs.Lines.{minLine}
-use Rattle.output.specs.Output.{maxCommands}
-use Rattle.output.specs.Said.{lineAt, LowValues}
-use Rattle.output.proofs.put_answers.Statement.{statement}
-use Rattle.output.proofs.put_answers.Tie as tie
+use Rattle.report.specs.Said.{maxCommands, lineAt, LowValues}
+use Rattle.report.proofs.put_answers.Statement.{statement}
+use Rattle.report.proofs.put_answers.Tie as tie
 
 abbrev Inv-loop : tie.InvT-loop
 Inv-loop buf₀ words values n pos₀ i₀ buf pos i =

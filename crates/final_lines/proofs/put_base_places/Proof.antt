@@ -1,4 +1,4 @@
--- `output::put_base_places` meets its contract.
+-- `final_lines::put_base_places` meets its contract.
 -- Assumes nothing but the laws of proofs/.
 use borrow.Author.Needs.{needs}
 use native.Mathlib.Omega.{arith}
@@ -6,9 +6,9 @@ use mathlib.Core.Path.{sym}
 use Prim.Native.Nat.{_≤_}
 use lib.ListN.{length, take}
 use lib.Seq.{length-take-le}
-use Rattle.output.proofs.Closing.{places-fit}
-use Rattle.output.proofs.put_base_places.Statement.{statement}
-use Rattle.output.proofs.put_base_places.Tie as tie
+use Rattle.final_lines.proofs.Closing.{places-fit}
+use Rattle.final_lines.proofs.put_base_places.Statement.{statement}
+use Rattle.final_lines.proofs.put_base_places.Tie as tie
 
 widened-requires : tie.Need-widened-requires
 widened-requires c κs = search needs

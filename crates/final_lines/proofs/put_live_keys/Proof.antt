@@ -1,4 +1,4 @@
--- `output::put_live_keys` meets its contract.
+-- `final_lines::put_live_keys` meets its contract.
 -- Assumes nothing but the laws of proofs/.
 use borrow.Author.Needs.{needs}
 use native.Mathlib.Omega.{arith}
@@ -6,9 +6,9 @@ use mathlib.Core.Path.{sym}
 use lib.ListN.{take}
 use lib.Seq.{length-take-le}
 use Rattle.bonds.proofs.InPlace.{table-take}
-use Rattle.output.proofs.Closing.{live-fits}
-use Rattle.output.proofs.put_live_keys.Statement.{statement}
-use Rattle.output.proofs.put_live_keys.Tie as tie
+use Rattle.final_lines.proofs.Closing.{live-fits}
+use Rattle.final_lines.proofs.put_live_keys.Statement.{statement}
+use Rattle.final_lines.proofs.put_live_keys.Tie as tie
 
 slice-aggregate-put-live : tie.Need-slice-aggregate-put-live
 slice-aggregate-put-live c =

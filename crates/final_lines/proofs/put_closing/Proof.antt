@@ -1,13 +1,13 @@
--- `output::put_closing` meets its contract.
+-- `final_lines::put_closing` meets its contract.
 -- Assumes nothing but the laws of proofs/.
 use borrow.Author.Needs.{needs}
 use native.Mathlib.Omega.{arith}
 use mathlib.Core.Path.{_≡_}
 use lib.ListN.{length}
 use Rattle.net.specs.Limits.{maxBonds, maxLive}
-use Rattle.output.proofs.Closing.{bonds-fit, tally-fits, closing-pieces}
-use Rattle.output.proofs.put_closing.Statement.{statement}
-use Rattle.output.proofs.put_closing.Tie as tie
+use Rattle.final_lines.proofs.Closing.{bonds-fit, tally-fits, closing-pieces}
+use Rattle.final_lines.proofs.put_closing.Statement.{statement}
+use Rattle.final_lines.proofs.put_closing.Tie as tie
 
 put-base-places-requires : tie.Need-put-base-places-requires
 put-base-places-requires c κs = search needs

@@ -19,8 +19,7 @@ use Rattle.text.specs.Ascii.{ascii}
 use Rattle.text.proofs.Writes.{written-none, written-more, written-pair}
 use Rattle.closing.specs.Closing.{itemRoom, bondRoom, placesLine, bondLines, liveLine, tallyLine}
 use Rattle.closing.proofs.Lines.{row-length, bonds-table, bonds-upto}
-use Rattle.output.specs.Output.{closingOf}
-use Rattle.output.specs.Said.{placesRoom, liveRoom}
+use Rattle.final_lines.specs.Final.{closingOf, placesRoom, liveRoom}
 
 -- ---- Lengths
 

@@ -1,4 +1,4 @@
--- `output::widened` meets its contract.
+-- `final_lines::widened` meets its contract.
 -- Assumes nothing but the laws of proofs/.
 use borrow.Author.Needs.{needs}
 use native.Mathlib.Omega.{arith}
@@ -10,8 +10,8 @@ use Rattle.net.specs.Limits.{maxBases}
 use Rattle.net.specs.Tests.{table}
 use Rattle.net.proofs.Tables.{table-list}
 use Rattle.bonds.proofs.Fill.{fill-turn, fill-end}
-use Rattle.output.proofs.widened.Statement.{statement}
-use Rattle.output.proofs.widened.Tie as tie
+use Rattle.final_lines.proofs.widened.Statement.{statement}
+use Rattle.final_lines.proofs.widened.Tie as tie
 
 abbrev Inv-loop : tie.InvT-loop
 Inv-loop places wide₀ i₀ wide i = (i ≤ maxBases) × (length places ≡ maxBases) × (length wide₀ ≡ length places) × (wide ≡ table i (λ k. getD places k 0) ++ drop i wide₀)

@@ -1,0 +1,2 @@
+-- The closing lines of a record.
+pub mod Final
