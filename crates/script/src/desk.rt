@@ -2,6 +2,7 @@
 // command or a question has one answer, which the next `expect` is held against, or which is printed.
 ghost use Prim.Native.Nat.{_<_, _≤_};
 ghost use lib.ListN.{length};
+use crate::ask::put_question;
 use crate::blocks::give_up;
 use crate::blocks::hand_in;
 use crate::command::COUNT;
@@ -15,7 +16,6 @@ use crate::enter::enter_line;
 use crate::enter::read_lines;
 use crate::form::WAY_BACK;
 use crate::form::form_of;
-use crate::questions::put_question;
 use crate::say::print_total;
 use crate::sheets::line_end;
 use crate::state::ANSWERS;

@@ -1,5 +1,6 @@
 // Scripts for the desk: a sheet as text or bytes, commands, questions and expectations, line by line. The answers come from
 // the customer's calls; what is here reads lines and prints. Proved safe; what is printed is compared.
+mod ask;
 mod blocks;
 mod changed;
 mod command;
@@ -9,7 +10,6 @@ mod exam;
 pub mod files;
 mod form;
 mod hex;
-mod questions;
 pub mod same;
 mod say;
 mod sheets;

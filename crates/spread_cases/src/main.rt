@@ -1,14 +1,14 @@
 // How far one firing spreads (document 02, T-08), by the customer's call: cases worked out by hand (hand), and sessions by lot on both
-// engines, in which each set of parts is worked out in three other ways (questions). What is run stands in the file stdin, a row for each
+// engines, in which each set of parts is worked out in three other ways (asking). What is run stands in the file stdin, a row for each
 // (generated, rows). Prints for each group of rows how many comparisons were made and how many differed, with the first that did; and the
 // counts that have to reach a floor.
 mod altered;
+mod asking;
 mod counts;
 mod forward;
 mod hand;
 mod judge;
 mod play;
-mod questions;
 mod relation;
 mod subsets;
 

@@ -1,13 +1,13 @@
 // Sessions by lot on both engines. After each command the answers are compared, and after some and at the end all questions are asked.
 // A row: 3 how many sessions, 4 how many commands each has, 5 above how many live firings most take back, 6 after every how many commands
 // the questions are asked, 7 to 14 the plan of the sheets, 15 every how manieth session has its record altered at the end.
+use crate::asking::ask;
 use crate::counts::begin_session;
 use crate::counts::end_session;
 use crate::counts::judged;
 use crate::counts::note_uncoupled;
 use crate::judge::ANSWER;
 use crate::judge::unless;
-use crate::questions::ask;
 use case_records::heard::HEARD;
 use case_records::heard::SAID;
 use case_records::heard::commanded;

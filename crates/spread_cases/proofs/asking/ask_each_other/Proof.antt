@@ -1,11 +1,11 @@
--- `spread_cases::questions::ask_each_other` is safe and ends. Lent slices keep their length.
+-- `spread_cases::asking::ask_each_other` is safe and ends. Lent slices keep their length.
 -- Assumes nothing.
 use borrow.Author.Needs.{needs}
 use mathlib.Core.Path.{_≡_}
 use Prim.Native.Nat.{_-_}
 use lib.ListN.{length}
-use Rattle.spread_cases.proofs.questions.ask_each_other.Statement.{statement}
-use Rattle.spread_cases.proofs.questions.ask_each_other.Tie as tie
+use Rattle.spread_cases.proofs.asking.ask_each_other.Statement.{statement}
+use Rattle.spread_cases.proofs.asking.ask_each_other.Tie as tie
 
 abbrev Inv-loop : tie.InvT-loop
 Inv-loop c₀ r sheet s n key₀ c key = length c ≡ length c₀

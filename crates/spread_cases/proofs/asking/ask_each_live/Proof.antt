@@ -1,11 +1,11 @@
--- `spread_cases::questions::ask_each_live` is safe and ends. Lent slices keep their length.
+-- `spread_cases::asking::ask_each_live` is safe and ends. Lent slices keep their length.
 -- Assumes nothing.
 use borrow.Author.Needs.{needs}
 use mathlib.Core.Path.{_≡_}
 use Prim.Native.Nat.{_-_}
 use lib.ListN.{length}
-use Rattle.spread_cases.proofs.questions.ask_each_live.Statement.{statement}
-use Rattle.spread_cases.proofs.questions.ask_each_live.Tie as tie
+use Rattle.spread_cases.proofs.asking.ask_each_live.Statement.{statement}
+use Rattle.spread_cases.proofs.asking.ask_each_live.Tie as tie
 
 abbrev Inv-loop : tie.InvT-loop
 Inv-loop c₀ r sheet h table n i₀ c i = length c ≡ length c₀
