@@ -3,8 +3,8 @@
 ghost use Prim.Native.Nat.{_<_};
 ghost use lib.ListN.{length};
 ghost use mathlib.Core.Path.{_≡_};
-use crate::form::number;
-use crate::questions::refusal_of;
+use crate::ask::refusal_of;
+use script_lines::form::number;
 use wording::answer::put_start;
 use wording::part::front;
 

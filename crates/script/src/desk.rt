@@ -2,44 +2,50 @@
 // command or a question has one answer, which the next `expect` is held against, or which is printed.
 ghost use Prim.Native.Nat.{_<_, _≤_};
 ghost use lib.ListN.{length};
+use crate::alter::alter_line;
+use crate::ask::put_question;
 use crate::blocks::give_up;
 use crate::blocks::hand_in;
-use crate::command::COUNT;
-use crate::command::UNREAD;
-use crate::command::command_of;
+use crate::blocks::hold_refused;
+use crate::each::each_line;
 use crate::enter::ASK;
 use crate::enter::BEGIN;
+use crate::enter::CHANGE;
 use crate::enter::COMMAND;
 use crate::enter::HAND;
 use crate::enter::enter_line;
 use crate::enter::read_lines;
-use crate::form::WAY_BACK;
-use crate::form::form_of;
-use crate::questions::put_question;
-use crate::say::print_total;
-use crate::sheets::line_end;
-use crate::state::ANSWERS;
-use crate::state::ASKED_AT;
-use crate::state::ASKED_TO;
-use crate::state::BLOCK_FROM;
-use crate::state::DIFFERENCES;
-use crate::state::EXPECTED;
-use crate::state::LENGTH;
-use crate::state::MISTAKES;
-use crate::state::OPEN_SHEET;
-use crate::state::READING;
-use crate::state::REFUSAL;
-use crate::state::STARTED;
-use crate::state::STATE;
-use crate::state::bad_bytes;
-use crate::state::keep_tally;
-use crate::state::opened;
-use crate::state::tally_of;
-use crate::state::tell;
-use crate::state::wrote;
 use crate::ways::way_line;
 use commands::value_of;
 use commands::word_of;
+use script_lines::command::COUNT;
+use script_lines::command::UNREAD;
+use script_lines::command::command_of;
+use script_lines::form::EACH;
+use script_lines::form::WAY_BACK;
+use script_lines::form::form_of;
+use script_lines::say::print_total;
+use script_lines::sheets::line_end;
+use script_lines::state::ANSWERS;
+use script_lines::state::ASKED_AT;
+use script_lines::state::ASKED_TO;
+use script_lines::state::BLOCK_FROM;
+use script_lines::state::DIFFERENCES;
+use script_lines::state::EXPECTED;
+use script_lines::state::LENGTH;
+use script_lines::state::MISTAKES;
+use script_lines::state::OPEN_SHEET;
+use script_lines::state::READING;
+use script_lines::state::REFUSAL;
+use script_lines::state::SERIAL;
+use script_lines::state::STARTED;
+use script_lines::state::STATE;
+use script_lines::state::bad_bytes;
+use script_lines::state::keep_tally;
+use script_lines::state::opened;
+use script_lines::state::tally_of;
+use script_lines::state::tell;
+use script_lines::state::wrote;
 use session::Counted;
 use session::Outcome;
 use session::Record;
@@ -93,7 +99,9 @@ fn heard(d: &mut [usize; STATE], word: u8, value: u16, answer: &mut [u8]) {
 
 fn outcome(d: &mut [usize; STATE], o: Outcome, answer: &mut [u8]) -> Record {
     let a = o.answer;
-    heard(d, word_of(a), value_of(a, o.key), answer);
+    let key = o.key;
+    heard(d, word_of(a), value_of(a, key), answer);
+    d[SERIAL] = key.0 as usize;
     o.session
 }
 
@@ -136,7 +144,8 @@ fn order_line(
     }
     d[ASKED_AT] = at;
     d[ASKED_TO] = to;
-    perform(d, r, front(&bytes, n as usize), sheet, answer)
+    let next = perform(d, r, front(&bytes, n as usize), sheet, answer);
+    hold_refused(name, d, r, next)
 }
 
 // A question between two positions of the text.
@@ -154,6 +163,10 @@ fn ask(
     let line = between(text, at, to);
     if form == WAY_BACK {
         way_line(name, line, d, r, sheet, answer);
+        return;
+    }
+    if form == EACH {
+        each_line(name, line, d, r, sheet, answer);
         return;
     }
     let n = put_question(text, line, form, d, r, sheet, answer);
@@ -182,7 +195,10 @@ fn take_line(
         return order_line(name, text, at, to, form, d, r, sheet, answer);
     }
     if left == HAND {
-        return hand_in(between(text, d[BLOCK_FROM], at), d, r, sheet, answer);
+        return hand_in(name, between(text, d[BLOCK_FROM], at), d, r, sheet, answer);
+    }
+    if left == CHANGE {
+        return alter_line(name, between(text, at, to), d, r, sheet);
     }
     if left == ASK {
         ask(name, text, at, to, form, d, r, sheet, answer);

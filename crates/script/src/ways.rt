@@ -1,11 +1,5 @@
 // `way back`: the firings to take back so that named parts are at named places (document 02, T-04). A line names each part and its
 // place in the words of a sheet; what it does not name may be anywhere. The set is the customer's call.
-use crate::same::item_at;
-use crate::sheets::one_more;
-use crate::state::LENGTH;
-use crate::state::STATE;
-use crate::state::mistake;
-use crate::state::opened;
 use format::base_count;
 use format::byte_at;
 use format::place_count;
@@ -13,12 +7,19 @@ use forms::has_form;
 use forms::nth_number;
 use net::MAX_LIVE;
 use questions::way_back;
+use script_lines::same::item_at;
+use script_lines::sheets::one_more;
+use script_lines::state::LENGTH;
+use script_lines::state::STATE;
+use script_lines::state::mistake;
+use script_lines::state::opened;
 use session::Record;
 use way_back::WayBack;
 use why::Reason;
-use wording::answer::put_if;
+use wording::answer::put_listed;
 use wording::part::behind;
 use wording::part::front;
+use wording::part::nth_line;
 use wording::put::Said;
 use wording::put::put;
 use wording::put::put_refusal;
@@ -106,25 +107,18 @@ fn read_layout(line: &[u8], at: usize, layout: &mut [u8], named: &mut [u8], n: u
 
 // ---- the answer
 
-// `take back` and the serials, in the order of the call.
-fn put_serials(buf: &mut [u8], w: WayBack) -> usize {
+// The serials, in the order of the call.
+fn put_serials(buf: &mut [u8], at: usize, w: WayBack) -> usize {
     let count = w.count;
     let keys = w.keys;
-    let mut pos = put_text(buf, 0, b"take back");
+    let mut pos = at;
     let mut i = 0;
     while i < MAX_LIVE {
         let k = keys[i];
-        pos = put_if(buf, pos, i < count, k.0 as usize);
+        pos = put_listed(buf, pos, i < count, k.0 as usize);
         i += 1;
     }
     pos
-}
-
-fn put_found(buf: &mut [u8], w: WayBack) -> usize {
-    if w.count == 0 {
-        return put_text(buf, 0, b"take back nothing");
-    }
-    put_serials(buf, w)
 }
 
 // The first part that is wanted at a place which is not there; how many there are where none is.
@@ -185,14 +179,20 @@ fn put_refused_way(buf: &mut [u8], sheet: &[u8], layout: &[u8], refusal: u8) -> 
     put_text(buf, b, front(&words, n))
 }
 
+// What stands before the serials; all where there are none.
+fn put_found(buf: &mut [u8], sheet: &[u8], layout: &[u8], refusal: u8, count: usize) -> usize {
+    if refusal != 0 {
+        return put_refused_way(buf, sheet, layout, refusal);
+    }
+    let line = if count == 0 { 1 } else { 0 };
+    put_text(buf, 0, nth_line(b"take back\ntake back nothing", line))
+}
+
 // The set, or why there is none.
 fn put_way(buf: &mut [u8], sheet: &[u8], layout: &[u8], w: WayBack) -> usize {
     let answer = w.answer;
-    let refusal = answer.number();
-    if refusal == 0 {
-        return put_found(buf, w);
-    }
-    put_refused_way(buf, sheet, layout, refusal)
+    let begin = put_found(buf, sheet, layout, answer.number(), w.count);
+    put_serials(buf, begin, w)
 }
 
 // The customer's call on a layout.

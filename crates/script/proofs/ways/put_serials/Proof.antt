@@ -13,12 +13,6 @@ Inv-loop buf₀ count keys pos₀ i₀ buf pos i = length buf ≡ length buf₀
 abbrev μ-loop : tie.MeasureT-loop
 μ-loop buf₀ count keys pos₀ i₀ buf pos i = 256 - i
 
-slice-aggregate-put-text : tie.Need-slice-aggregate-put-text Inv-loop μ-loop
-slice-aggregate-put-text c = search needs
-
-put-text-requires : tie.Need-put-text-requires Inv-loop μ-loop
-put-text-requires c κs = search needs
-
 loop-holds : tie.Need-loop-holds Inv-loop μ-loop
 loop-holds c = search needs
 
@@ -28,11 +22,11 @@ mul-k c = search needs
 array-copy-out-k : tie.Need-array-copy-out-k Inv-loop μ-loop
 array-copy-out-k c = search needs
 
-cast-put-if : tie.Need-cast-put-if Inv-loop μ-loop
-cast-put-if c = search needs
+cast-put-listed : tie.Need-cast-put-listed Inv-loop μ-loop
+cast-put-listed c = search needs
 
-put-if-requires : tie.Need-put-if-requires Inv-loop μ-loop
-put-if-requires c κs = search needs
+put-listed-requires : tie.Need-put-listed-requires Inv-loop μ-loop
+put-listed-requires c κs = search needs
 
 add-i : tie.Need-add-i Inv-loop μ-loop
 add-i c = search needs
@@ -55,13 +49,11 @@ put-serials-spec =
     (tie.spec
     Inv-loop
     μ-loop
-    slice-aggregate-put-text
-    put-text-requires
     loop-holds
     mul-k
     array-copy-out-k
-    cast-put-if
-    put-if-requires
+    cast-put-listed
+    put-listed-requires
     add-i
     loop-less
     loop-again
