@@ -2,12 +2,9 @@
 // command or a question has one answer, which the next `expect` is held against, or which is printed.
 ghost use Prim.Native.Nat.{_<_, _≤_};
 ghost use lib.ListN.{length};
-use crate::alter::alter_line;
-use crate::ask::put_question;
 use crate::blocks::give_up;
 use crate::blocks::hand_in;
 use crate::blocks::hold_refused;
-use crate::each::each_line;
 use crate::enter::ASK;
 use crate::enter::BEGIN;
 use crate::enter::CHANGE;
@@ -15,9 +12,12 @@ use crate::enter::COMMAND;
 use crate::enter::HAND;
 use crate::enter::enter_line;
 use crate::enter::read_lines;
-use crate::ways::way_line;
 use commands::value_of;
 use commands::word_of;
+use script_ask::alter::alter_line;
+use script_ask::ask::put_question;
+use script_ask::each::each_line;
+use script_ask::ways::way_line;
 use script_lines::command::COUNT;
 use script_lines::command::UNREAD;
 use script_lines::command::command_of;
@@ -32,6 +32,8 @@ use script_lines::state::ASKED_TO;
 use script_lines::state::BLOCK_FROM;
 use script_lines::state::DIFFERENCES;
 use script_lines::state::EXPECTED;
+use script_lines::state::KEPT;
+use script_lines::state::LAYOUT;
 use script_lines::state::LENGTH;
 use script_lines::state::MISTAKES;
 use script_lines::state::OPEN_SHEET;
@@ -63,6 +65,7 @@ fn begun(d: &mut [usize; STATE], n: usize, refusal: u8) {
     opened(d, n);
     d[OPEN_SHEET] = refusal as usize;
     d[STARTED] = 1;
+    d[LAYOUT] = 0;
     d[REFUSAL] = 0;
     keep_tally(
         d,
@@ -82,10 +85,15 @@ fn started(d: &mut [usize; STATE], s: Start, answer: &mut [u8]) -> Record {
     s.session
 }
 
-// A fresh record on the sheet in the buffer.
-fn start_session(d: &mut [usize; STATE], sheet: &[u8], answer: &mut [u8]) -> Record {
+// A fresh record on the sheet in the buffer, or the one before.
+fn start_session(d: &mut [usize; STATE], r: Record, sheet: &[u8], answer: &mut [u8]) -> Record {
     let s = start(front(sheet, d[LENGTH]));
-    started(d, s, answer)
+    let fresh = started(d, s, answer);
+    if d[KEPT] == 0 {
+        return fresh;
+    }
+    d[KEPT] = 0;
+    r
 }
 
 // ---- commands
@@ -189,7 +197,7 @@ fn take_line(
     let form = form_of(between(text, at, to));
     let left = enter_line(name, text, at, to, form, d, sheet, answer);
     if left == BEGIN {
-        return start_session(d, sheet, answer);
+        return start_session(d, r, sheet, answer);
     }
     if left == COMMAND {
         return order_line(name, text, at, to, form, d, r, sheet, answer);

@@ -9,7 +9,7 @@ use wording::part::front;
 use wording::refused::put_refused;
 
 // How many numbers there are.
-pub const STATE: usize = 27;
+pub const STATE: usize = 29;
 
 // The line in hand; not 0 where a write failed.
 pub const LINE: usize = 0;
@@ -73,6 +73,11 @@ pub const ALTERED: usize = 25;
 
 // The serial that came with the last command's answer: 0 where it was refused.
 pub const SERIAL: usize = 26;
+
+// Not 0 where the next session keeps the record; one more than the parts that a layout is of, where that was altered.
+pub const KEPT: usize = 27;
+
+pub const LAYOUT: usize = 28;
 
 pub fn tally_of(d: &[usize; STATE]) -> Tally {
     Tally {
