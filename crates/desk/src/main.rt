@@ -6,7 +6,7 @@ ghost use Prim.Native.Nat.{_<_, _≤_};
 use crate::program::Task;
 use crate::program::take_file;
 use crate::program::take_named;
-use script::same::same_bytes;
+use script_lines::same::same_bytes;
 
 // Whether an argument is a word.
 fn is_word(i: usize, word: &[u8]) -> bool {

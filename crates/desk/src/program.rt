@@ -2,8 +2,8 @@
 // Failed reads and writes are said on standard error.
 use reading::read_all;
 use script::desk::run_script;
-use script::files::make;
-use script::files::show;
+use script_make::files::make;
+use script_make::files::show;
 
 // Room for a script or an input, for a sheet, and for the longest answer. Only their lengths matter.
 const TEXT: usize = 1048576;

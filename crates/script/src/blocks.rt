@@ -1,21 +1,24 @@
 // Commands handed in together (document 02, T-02). The lines of a block are passed until `hand in`, which reads them again, joins
 // their commands' bytes and hands them in by the customer's call; the answers come as two lists, a word and a value each.
-use crate::command::COUNT;
-use crate::command::UNREAD;
-use crate::command::command_of;
-use crate::exam::put_orders;
-use crate::sheets::plus;
-use crate::state::BLOCK_BYTES;
-use crate::state::BLOCK_FROM;
-use crate::state::IN_BLOCK;
-use crate::state::LENGTH;
-use crate::state::REFUSAL;
-use crate::state::STATE;
-use crate::state::bad_bytes;
-use crate::state::keep_tally;
-use crate::state::mistake;
-use crate::state::opened;
-use crate::state::tally_of;
+use case_records::same_record;
+use script_lines::command::COUNT;
+use script_lines::command::UNREAD;
+use script_lines::command::command_of;
+use script_lines::command::put_orders;
+use script_lines::sheets::plus;
+use script_lines::state::BLOCK_BYTES;
+use script_lines::state::BLOCK_FROM;
+use script_lines::state::IN_BLOCK;
+use script_lines::state::LENGTH;
+use script_lines::state::REFUSAL;
+use script_lines::state::SERIAL;
+use script_lines::state::STATE;
+use script_lines::state::bad_bytes;
+use script_lines::state::keep_tally;
+use script_lines::state::left_changed;
+use script_lines::state::mistake;
+use script_lines::state::opened;
+use script_lines::state::tally_of;
 use session::Record;
 use session::block::BlockCounted;
 use session::block::BlockOutcome;
@@ -111,6 +114,7 @@ fn outcome(
     opened(d, n);
     d[IN_BLOCK] = 0;
     d[REFUSAL] = refusal as usize;
+    d[SERIAL] = 0;
     o.session
 }
 
@@ -148,8 +152,20 @@ fn run_block(
     counted(d, done, &words, &values, answer)
 }
 
+// The record behind a command or a block: the very one before it where that was refused.
+pub fn hold_refused(name: &[u8], d: &mut [usize; STATE], r: Record, next: Record) -> Record {
+    if d[REFUSAL] == 0 {
+        return next;
+    }
+    if (d[SERIAL] != 0) | !same_record(r, next) {
+        left_changed(name, d);
+    }
+    next
+}
+
 // `hand in`: the commands of a stretch of the text.
 pub fn hand_in(
+    name: &[u8],
     lines: &[u8],
     d: &mut [usize; STATE],
     r: Record,
@@ -158,7 +174,8 @@ pub fn hand_in(
 ) -> Record {
     let mut room = byte_room();
     let n = put_orders(lines, &mut room, 0);
-    run_block(d, r, front(&room, n), sheet, answer)
+    let next = run_block(d, r, front(&room, n), sheet, answer);
+    hold_refused(name, d, r, next)
 }
 
 // A block that is not handed in: a mistake, and its commands are given up.

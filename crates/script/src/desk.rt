@@ -2,44 +2,52 @@
 // command or a question has one answer, which the next `expect` is held against, or which is printed.
 ghost use Prim.Native.Nat.{_<_, _≤_};
 ghost use lib.ListN.{length};
-use crate::ask::put_question;
 use crate::blocks::give_up;
 use crate::blocks::hand_in;
-use crate::command::COUNT;
-use crate::command::UNREAD;
-use crate::command::command_of;
+use crate::blocks::hold_refused;
 use crate::enter::ASK;
 use crate::enter::BEGIN;
+use crate::enter::CHANGE;
 use crate::enter::COMMAND;
 use crate::enter::HAND;
 use crate::enter::enter_line;
 use crate::enter::read_lines;
-use crate::form::WAY_BACK;
-use crate::form::form_of;
-use crate::say::print_total;
-use crate::sheets::line_end;
-use crate::state::ANSWERS;
-use crate::state::ASKED_AT;
-use crate::state::ASKED_TO;
-use crate::state::BLOCK_FROM;
-use crate::state::DIFFERENCES;
-use crate::state::EXPECTED;
-use crate::state::LENGTH;
-use crate::state::MISTAKES;
-use crate::state::OPEN_SHEET;
-use crate::state::READING;
-use crate::state::REFUSAL;
-use crate::state::STARTED;
-use crate::state::STATE;
-use crate::state::bad_bytes;
-use crate::state::keep_tally;
-use crate::state::opened;
-use crate::state::tally_of;
-use crate::state::tell;
-use crate::state::wrote;
-use crate::ways::way_line;
 use commands::value_of;
 use commands::word_of;
+use script_ask::alter::alter_line;
+use script_ask::ask::put_question;
+use script_ask::each::each_line;
+use script_ask::ways::way_line;
+use script_lines::command::COUNT;
+use script_lines::command::UNREAD;
+use script_lines::command::command_of;
+use script_lines::form::EACH;
+use script_lines::form::WAY_BACK;
+use script_lines::form::form_of;
+use script_lines::say::print_total;
+use script_lines::sheets::line_end;
+use script_lines::state::ANSWERS;
+use script_lines::state::ASKED_AT;
+use script_lines::state::ASKED_TO;
+use script_lines::state::BLOCK_FROM;
+use script_lines::state::DIFFERENCES;
+use script_lines::state::EXPECTED;
+use script_lines::state::KEPT;
+use script_lines::state::LAYOUT;
+use script_lines::state::LENGTH;
+use script_lines::state::MISTAKES;
+use script_lines::state::OPEN_SHEET;
+use script_lines::state::READING;
+use script_lines::state::REFUSAL;
+use script_lines::state::SERIAL;
+use script_lines::state::STARTED;
+use script_lines::state::STATE;
+use script_lines::state::bad_bytes;
+use script_lines::state::keep_tally;
+use script_lines::state::opened;
+use script_lines::state::tally_of;
+use script_lines::state::tell;
+use script_lines::state::wrote;
 use session::Counted;
 use session::Outcome;
 use session::Record;
@@ -57,6 +65,7 @@ fn begun(d: &mut [usize; STATE], n: usize, refusal: u8) {
     opened(d, n);
     d[OPEN_SHEET] = refusal as usize;
     d[STARTED] = 1;
+    d[LAYOUT] = 0;
     d[REFUSAL] = 0;
     keep_tally(
         d,
@@ -76,10 +85,15 @@ fn started(d: &mut [usize; STATE], s: Start, answer: &mut [u8]) -> Record {
     s.session
 }
 
-// A fresh record on the sheet in the buffer.
-fn start_session(d: &mut [usize; STATE], sheet: &[u8], answer: &mut [u8]) -> Record {
+// A fresh record on the sheet in the buffer, or the one before.
+fn start_session(d: &mut [usize; STATE], r: Record, sheet: &[u8], answer: &mut [u8]) -> Record {
     let s = start(front(sheet, d[LENGTH]));
-    started(d, s, answer)
+    let fresh = started(d, s, answer);
+    if d[KEPT] == 0 {
+        return fresh;
+    }
+    d[KEPT] = 0;
+    r
 }
 
 // ---- commands
@@ -93,7 +107,9 @@ fn heard(d: &mut [usize; STATE], word: u8, value: u16, answer: &mut [u8]) {
 
 fn outcome(d: &mut [usize; STATE], o: Outcome, answer: &mut [u8]) -> Record {
     let a = o.answer;
-    heard(d, word_of(a), value_of(a, o.key), answer);
+    let key = o.key;
+    heard(d, word_of(a), value_of(a, key), answer);
+    d[SERIAL] = key.0 as usize;
     o.session
 }
 
@@ -136,7 +152,8 @@ fn order_line(
     }
     d[ASKED_AT] = at;
     d[ASKED_TO] = to;
-    perform(d, r, front(&bytes, n as usize), sheet, answer)
+    let next = perform(d, r, front(&bytes, n as usize), sheet, answer);
+    hold_refused(name, d, r, next)
 }
 
 // A question between two positions of the text.
@@ -154,6 +171,10 @@ fn ask(
     let line = between(text, at, to);
     if form == WAY_BACK {
         way_line(name, line, d, r, sheet, answer);
+        return;
+    }
+    if form == EACH {
+        each_line(name, line, d, r, sheet, answer);
         return;
     }
     let n = put_question(text, line, form, d, r, sheet, answer);
@@ -176,13 +197,16 @@ fn take_line(
     let form = form_of(between(text, at, to));
     let left = enter_line(name, text, at, to, form, d, sheet, answer);
     if left == BEGIN {
-        return start_session(d, sheet, answer);
+        return start_session(d, r, sheet, answer);
     }
     if left == COMMAND {
         return order_line(name, text, at, to, form, d, r, sheet, answer);
     }
     if left == HAND {
-        return hand_in(between(text, d[BLOCK_FROM], at), d, r, sheet, answer);
+        return hand_in(name, between(text, d[BLOCK_FROM], at), d, r, sheet, answer);
+    }
+    if left == CHANGE {
+        return alter_line(name, between(text, at, to), d, r, sheet);
     }
     if left == ASK {
         ask(name, text, at, to, form, d, r, sheet, answer);

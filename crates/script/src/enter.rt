@@ -5,45 +5,48 @@ ghost use lib.ListN.{length};
 use crate::blocks::begin_block;
 use crate::blocks::give_up;
 use crate::blocks::pass_order;
-use crate::form::BLANK;
-use crate::form::BLOCK;
-use crate::form::EXPECT;
-use crate::form::HAND_IN;
-use crate::form::OTHER;
-use crate::form::SESSION;
-use crate::form::SHEET;
-use crate::form::is_command;
-use crate::same::same_items;
-use crate::say::print_difference;
-use crate::say::print_slip;
-use crate::sheets::one_more;
-use crate::sheets::plus;
-use crate::sheets::sheet_in;
-use crate::state::BROKEN;
-use crate::state::DIFFERENCES;
-use crate::state::EXPECTED;
-use crate::state::FROM;
-use crate::state::FROM_LINE;
-use crate::state::IN_BLOCK;
-use crate::state::LENGTH;
-use crate::state::LINE;
-use crate::state::MISTAKES;
-use crate::state::OPEN;
-use crate::state::READING;
-use crate::state::STARTED;
-use crate::state::STATE;
-use crate::state::closed;
-use crate::state::mistake;
-use crate::state::tell;
-use crate::state::wrote;
 use lexing::next;
+use script_lines::form::ALTER;
+use script_lines::form::BLANK;
+use script_lines::form::BLOCK;
+use script_lines::form::EXPECT;
+use script_lines::form::HAND_IN;
+use script_lines::form::OTHER;
+use script_lines::form::SESSION;
+use script_lines::form::SHEET;
+use script_lines::form::is_command;
+use script_lines::same::same_items;
+use script_lines::say::print_difference;
+use script_lines::say::print_slip;
+use script_lines::sheets::one_more;
+use script_lines::sheets::plus;
+use script_lines::sheets::sheet_in;
+use script_lines::state::ALTERED;
+use script_lines::state::BROKEN;
+use script_lines::state::DIFFERENCES;
+use script_lines::state::EXPECTED;
+use script_lines::state::FROM;
+use script_lines::state::FROM_END;
+use script_lines::state::FROM_LINE;
+use script_lines::state::IN_BLOCK;
+use script_lines::state::LENGTH;
+use script_lines::state::LINE;
+use script_lines::state::MISTAKES;
+use script_lines::state::OPEN;
+use script_lines::state::READING;
+use script_lines::state::STARTED;
+use script_lines::state::STATE;
+use script_lines::state::closed;
+use script_lines::state::mistake;
+use script_lines::state::tell;
+use script_lines::state::wrote;
 use wording::part::behind;
 use wording::part::between;
 use wording::part::front;
 use wording::part::without_comment;
 
 // What is left to do with a line once it is clear what it is: nothing, a session begins, a command, a block is handed in, a
-// question.
+// question, an alteration.
 const NOTHING: u8 = 0;
 
 pub const BEGIN: u8 = 1;
@@ -53,6 +56,8 @@ pub const COMMAND: u8 = 2;
 pub const HAND: u8 = 3;
 
 pub const ASK: u8 = 4;
+
+pub const CHANGE: u8 = 5;
 
 // `sheet`: its lines are passed from the next line on. The line ends at a position.
 fn begin_sheet(d: &mut [usize; STATE], at: usize) {
@@ -77,9 +82,20 @@ pub fn read_lines(name: &[u8], text: &[u8], at: usize, d: &mut [usize; STATE], s
 {
     let g = sheet_in(between(text, d[FROM], at), sheet);
     d[READING] = 0;
+    d[FROM_END] = at;
+    d[ALTERED] = 0;
     d[LENGTH] = g.n;
     if !g.fine {
         break_off(name, d, g.slip, g.line);
+    }
+}
+
+// A session more is on the sheet as it was read.
+fn begin_again(name: &[u8], text: &[u8], d: &mut [usize; STATE], sheet: &mut [u8])
+    requires { ⌜ 65536 ≤ length (now sheet) ⌝ }
+{
+    if d[ALTERED] != 0 {
+        read_lines(name, text, d[FROM_END], d, sheet);
     }
 }
 
@@ -88,6 +104,7 @@ fn session_line(name: &[u8], text: &[u8], at: usize, d: &mut [usize; STATE], she
     requires { ⌜ 65536 ≤ length (now sheet) ⌝ }
 {
     if d[STARTED] != 0 {
+        begin_again(name, text, d, sheet);
         return BEGIN;
     }
     if d[BROKEN] != 0 {
@@ -160,7 +177,7 @@ fn in_session(name: &[u8], to: usize, form: u8, d: &mut [usize; STATE]) -> u8 {
         other_line(name, d);
         return NOTHING;
     }
-    ASK
+    if form == ALTER { CHANGE } else { ASK }
 }
 
 // A line in a block. One that is none of a block is left out of it.

@@ -39,6 +39,19 @@ pub fn put_if(buf: &mut [u8], at: usize, mine: bool, n: usize) -> usize {
     put_item(buf, at, n)
 }
 
+// A number of a list where it is one of those that there are. One behind them is to be 0, and is written where it is not.
+pub fn put_listed(buf: &mut [u8], at: usize, mine: bool, n: usize) -> usize {
+    put_if(buf, at, mine | (n != 0), n)
+}
+
+// A word, or `refused N`; 0 where it is not refused.
+pub fn put_begin(buf: &mut [u8], refusal: u8, word: &[u8]) -> usize {
+    if refusal != 0 {
+        return put_refusal(buf, refusal);
+    }
+    put_text(buf, 0, word)
+}
+
 // `places` and the place of each of the first n parts.
 pub fn put_where(buf: &mut [u8], m: Marking, n: usize) -> usize {
     let places = m.places;

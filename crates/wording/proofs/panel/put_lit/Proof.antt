@@ -8,16 +8,10 @@ use Rattle.wording.proofs.panel.put_lit.Statement.{statement}
 use Rattle.wording.proofs.panel.put_lit.Tie as tie
 
 abbrev Inv-loop : tie.InvT-loop
-Inv-loop buf₀ keys lit pos₀ i₀ buf pos i = length buf ≡ length buf₀
+Inv-loop buf₀ at keys lit pos₀ i₀ buf pos i = length buf ≡ length buf₀
 
 abbrev μ-loop : tie.MeasureT-loop
-μ-loop buf₀ keys lit pos₀ i₀ buf pos i = 256 - i
-
-slice-aggregate-put-text : tie.Need-slice-aggregate-put-text Inv-loop μ-loop
-slice-aggregate-put-text c = search needs
-
-put-text-requires : tie.Need-put-text-requires Inv-loop μ-loop
-put-text-requires c κs = search needs
+μ-loop buf₀ at keys lit pos₀ i₀ buf pos i = 256 - i
 
 loop-holds : tie.Need-loop-holds Inv-loop μ-loop
 loop-holds c = search needs
@@ -58,8 +52,6 @@ put-lit-spec =
     (tie.spec
     Inv-loop
     μ-loop
-    slice-aggregate-put-text
-    put-text-requires
     loop-holds
     array-read-put-if
     mul-put-if

@@ -22,17 +22,17 @@ put-text-requires c κs = search needs
 loop-holds : tie.Need-loop-holds Inv-loop μ-loop
 loop-holds c = search needs
 
-mul-put-if : tie.Need-mul-put-if Inv-loop μ-loop
-mul-put-if c = search needs
+mul-put-listed : tie.Need-mul-put-listed Inv-loop μ-loop
+mul-put-listed c = search needs
 
-array-read-put-if : tie.Need-array-read-put-if Inv-loop μ-loop
-array-read-put-if c = search needs
+array-read-put-listed : tie.Need-array-read-put-listed Inv-loop μ-loop
+array-read-put-listed c = search needs
 
-cast-put-if : tie.Need-cast-put-if Inv-loop μ-loop
-cast-put-if c = search needs
+cast-put-listed : tie.Need-cast-put-listed Inv-loop μ-loop
+cast-put-listed c = search needs
 
-put-if-requires : tie.Need-put-if-requires Inv-loop μ-loop
-put-if-requires c κs = search needs
+put-listed-requires : tie.Need-put-listed-requires Inv-loop μ-loop
+put-listed-requires c κs = search needs
 
 add-p : tie.Need-add-p Inv-loop μ-loop
 add-p c = search needs
@@ -58,10 +58,10 @@ put-movers-spec =
     slice-aggregate-put-text
     put-text-requires
     loop-holds
-    mul-put-if
-    array-read-put-if
-    cast-put-if
-    put-if-requires
+    mul-put-listed
+    array-read-put-listed
+    cast-put-listed
+    put-listed-requires
     add-p
     loop-less
     loop-again

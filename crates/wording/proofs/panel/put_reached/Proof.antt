@@ -8,16 +8,10 @@ use Rattle.wording.proofs.panel.put_reached.Statement.{statement}
 use Rattle.wording.proofs.panel.put_reached.Tie as tie
 
 abbrev Inv-loop : tie.InvT-loop
-Inv-loop buf₀ parts pos₀ p₀ buf pos p = length buf ≡ length buf₀
+Inv-loop buf₀ at parts pos₀ p₀ buf pos p = length buf ≡ length buf₀
 
 abbrev μ-loop : tie.MeasureT-loop
-μ-loop buf₀ parts pos₀ p₀ buf pos p = 64 - p
-
-slice-aggregate-put-text : tie.Need-slice-aggregate-put-text Inv-loop μ-loop
-slice-aggregate-put-text c = search needs
-
-put-text-requires : tie.Need-put-text-requires Inv-loop μ-loop
-put-text-requires c κs = search needs
+μ-loop buf₀ at parts pos₀ p₀ buf pos p = 64 - p
 
 loop-holds : tie.Need-loop-holds Inv-loop μ-loop
 loop-holds c = search needs
@@ -49,8 +43,6 @@ put-reached-spec =
     (tie.spec
     Inv-loop
     μ-loop
-    slice-aggregate-put-text
-    put-text-requires
     loop-holds
     array-read-put-if
     put-if-requires

@@ -8,16 +8,10 @@ use Rattle.wording.proofs.panel.put_steps.Statement.{statement}
 use Rattle.wording.proofs.panel.put_steps.Tie as tie
 
 abbrev Inv-loop : tie.InvT-loop
-Inv-loop buf₀ steps count pos₀ i₀ buf pos i = length buf ≡ length buf₀
+Inv-loop buf₀ at steps count pos₀ i₀ buf pos i = length buf ≡ length buf₀
 
 abbrev μ-loop : tie.MeasureT-loop
-μ-loop buf₀ steps count pos₀ i₀ buf pos i = 256 - i
-
-slice-aggregate-put-text : tie.Need-slice-aggregate-put-text Inv-loop μ-loop
-slice-aggregate-put-text c = search needs
-
-put-text-requires : tie.Need-put-text-requires Inv-loop μ-loop
-put-text-requires c κs = search needs
+μ-loop buf₀ at steps count pos₀ i₀ buf pos i = 256 - i
 
 loop-holds : tie.Need-loop-holds Inv-loop μ-loop
 loop-holds c = search needs
@@ -28,11 +22,11 @@ mul-t c = search needs
 array-copy-out-t : tie.Need-array-copy-out-t Inv-loop μ-loop
 array-copy-out-t c = search needs
 
-cast-put-if : tie.Need-cast-put-if Inv-loop μ-loop
-cast-put-if c = search needs
+cast-put-listed : tie.Need-cast-put-listed Inv-loop μ-loop
+cast-put-listed c = search needs
 
-put-if-requires : tie.Need-put-if-requires Inv-loop μ-loop
-put-if-requires c κs = search needs
+put-listed-requires : tie.Need-put-listed-requires Inv-loop μ-loop
+put-listed-requires c κs = search needs
 
 add-i : tie.Need-add-i Inv-loop μ-loop
 add-i c = search needs
@@ -55,13 +49,11 @@ put-steps-spec =
     (tie.spec
     Inv-loop
     μ-loop
-    slice-aggregate-put-text
-    put-text-requires
     loop-holds
     mul-t
     array-copy-out-t
-    cast-put-if
-    put-if-requires
+    cast-put-listed
+    put-listed-requires
     add-i
     loop-less
     loop-again
