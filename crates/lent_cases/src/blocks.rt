@@ -115,15 +115,15 @@ struct Lent {
     sheet: [u8; 40],
 }
 
-// What the block left, with so many whole commands, one cut short or none.
-fn left_holds(x: BlockCounted, l: Lent, whole: usize, cut: usize) -> bool {
+// What the block left, with so many whole commands, one cut short or none, and so many answers.
+fn left_holds(x: BlockCounted, l: Lent, whole: usize, cut: usize, count: usize) -> bool {
     let u = x.tally;
     let t = l.tally;
     let r = l.record;
     let sheet = l.sheet;
     let after = record_after(r, &sheet, whole);
     let o = x.outcome;
-    tally_holds(t, u, whole, cut) & outcome_holds(o, whole + cut, after)
+    tally_holds(t, u, whole, cut) & outcome_holds(o, count, after)
 }
 
 fn number_of(o: BlockOutcome) -> u8 {
@@ -161,10 +161,11 @@ fn told(x: BlockCounted, l: Lent, n: usize, words: &[u8; ENTRIES], values: &[u16
     let bytes = if number == 0 { n } else { 0 };
     let whole = bytes / 3;
     let cut = (bytes % 3 + 1) / 2;
+    let count = whole + cut;
     let r = l.record;
     let given = r.given;
-    let lists = lists_hold(whole, whole + cut, given.0, words, values);
-    print_answer(number, o.count, lists & left_holds(x, l, whole, cut));
+    let lists = lists_hold(whole, count, given.0, words, values);
+    print_answer(number, o.count, lists & left_holds(x, l, whole, cut, count));
 }
 
 // The block's bytes, and the entries of the two lists.
@@ -206,11 +207,9 @@ fn lent_of(version: u8, count: u16) -> Lent {
 }
 
 fn with_record(l: Lent, r: Record) -> Lent {
-    Lent {
-        record: r,
-        tally: l.tally,
-        sheet: l.sheet,
-    }
+    let mut next = l;
+    next.record = r;
+    next
 }
 
 // Step 0 fired, and no serial given: not sound.
