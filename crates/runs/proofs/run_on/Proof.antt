@@ -58,8 +58,8 @@ label-in-requires c κs =
 loop-holds : tie.Need-loop-holds Inv-loop μ-loop
 loop-holds c =
     let s : tie.Start Inv-loop μ-loop = c .before .before .before .before .before .before .before .before .before .before .before .before .before .before .before in (
-      search needs,
-      search needs,
+      refl,
+      omega arith,
       s .pre .1,
       s .pre .2,
       refl,
@@ -109,7 +109,11 @@ add-i c =
     record { fits = omega arith }
 
 loop-less : tie.Need-loop-less Inv-loop μ-loop
-loop-less c = search needs
+loop-less c =
+    let at : tie.At-loop Inv-loop μ-loop = c .before .before .before .before .before .before .before .before .before .before .before .before .before .before in
+    let below = c .before .before .before .before .before .before .before .before .before .before .before .before .before .loop-test .taken in
+    let here = at .loop .inv .0 in
+    omega arith
 
 loop-again : tie.Need-loop-again Inv-loop μ-loop
 loop-again c =
@@ -118,11 +122,14 @@ loop-again c =
     let at : tie.At-loop Inv-loop μ-loop = q .before .before in
     let s : tie.Start Inv-loop μ-loop = start at in
     let b : List ℕ = s .args .commands .now in
-    let part = q .command-at .ensures ∙ ap (λ (k : ℕ). take 3 (drop k b)) (at .loop .inv .0) in (
-      search needs,
-      search needs,
-      search needs,
-      search needs,
+    let part = q .command-at .ensures ∙ ap (λ (k : ℕ). take 3 (drop k b)) (at .loop .inv .0) in
+    let below = q .before .loop-test .taken in
+    let here = at .loop .inv .0 in
+    let far = at .loop .inv .1 in (
+      omega arith,
+      omega arith,
+      at .loop .inv .2,
+      at .loop .inv .3,
       simp length-set (at .loop .inv .4),
       simp length-set (at .loop .inv .5),
       d .step-in .ensures .1,
