@@ -126,11 +126,6 @@ fn left_holds(x: BlockCounted, l: Lent, whole: usize, cut: usize, count: usize) 
     tally_holds(t, u, whole, cut) & outcome_holds(o, count, after)
 }
 
-fn number_of(o: BlockOutcome) -> u8 {
-    let a = o.answer;
-    a.number()
-}
-
 fn print_case(bytes: usize, words: usize, values: usize) {
     print_decimal(1, bytes as u64);
     write_all(1, b" bytes, lists of ");
@@ -157,7 +152,8 @@ fn print_answer(number: u8, count: usize, holds: bool) {
 // What came of a block of so many bytes; nothing of it is run where it is refused.
 fn told(x: BlockCounted, l: Lent, n: usize, words: &[u8; ENTRIES], values: &[u16; ENTRIES]) {
     let o = x.outcome;
-    let number = number_of(o);
+    let a = o.answer;
+    let number = a.number();
     let bytes = if number == 0 { n } else { 0 };
     let whole = bytes / 3;
     let cut = (bytes % 3 + 1) / 2;

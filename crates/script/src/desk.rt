@@ -15,6 +15,7 @@ use crate::enter::read_lines;
 use commands::value_of;
 use commands::word_of;
 use script_ask::alter::alter_line;
+use script_ask::alter::zeros;
 use script_ask::ask::put_question;
 use script_ask::each::each_line;
 use script_ask::ways::way_line;
@@ -222,17 +223,11 @@ fn next_line(to: usize, n: usize) -> usize
     to + 1
 }
 
-// The record of no sheet.
-fn no_record() -> Record {
-    let s = start(b"");
-    s.session
-}
-
 // All lines, to the end of the text.
 fn take_lines(name: &[u8], text: &[u8], d: &mut [usize; STATE], sheet: &mut [u8], answer: &mut [u8])
     requires { ⌜ 65536 ≤ length (now sheet) ⌝ }
 {
-    let mut r = no_record();
+    let mut r = zeros();
     let mut at = 0;
     while at < text.len() {
         let to = line_end(text, at);

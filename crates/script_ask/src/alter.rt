@@ -195,7 +195,8 @@ pub fn with_table(r: Record) -> Record {
     next
 }
 
-fn zeros() -> Record {
+// The record of no sheet.
+pub fn zeros() -> Record {
     let s = start(b"");
     s.session
 }

@@ -13,8 +13,8 @@ Inv-loop name text d₀ sheet₀ answer₀ r₀ at₀ d sheet answer r at = (len
 abbrev μ-loop : tie.MeasureT-loop
 μ-loop name text d₀ sheet₀ answer₀ r₀ at₀ d sheet answer r at = length text - at
 
-no-record-requires : tie.Need-no-record-requires Inv-loop μ-loop
-no-record-requires c κs = search needs
+zeros-requires : tie.Need-zeros-requires Inv-loop μ-loop
+zeros-requires c κs = search needs
 
 loop-holds : tie.Need-loop-holds Inv-loop μ-loop
 loop-holds c = search needs
@@ -58,7 +58,7 @@ take-lines-spec =
     (tie.spec
     Inv-loop
     μ-loop
-    no-record-requires
+    zeros-requires
     loop-holds
     line-end-requires
     take-line-requires
