@@ -1,6 +1,9 @@
 // Records in the programs of cases: commands by the customer's call (heard), and whether two records are the same in every entry,
 // used or not. A refused command has to hand back the very record.
+pub mod altered;
 pub mod heard;
+pub mod led;
+pub mod rows;
 
 use firings::Firings;
 use marking::Marking;
