@@ -6,6 +6,7 @@ use mathlib.Core.List.{List, [], _∷_}
 use Prim.Native.Nat.{ℕ, zero, suc, _^_, _<_, _≤_}
 use native.Mathlib.Omega.{arith}
 use lib.ListN.{length, getD}
+use Rattle.net.specs.Limits.{maxBases}
 use Rattle.net.specs.Tests.{table}
 use Rattle.net.specs.Firing.{inSet}
 use Rattle.net.specs.Journal.{LiveLine, noLine, common}
@@ -14,8 +15,12 @@ use Rattle.net.proofs.Tables.{length-table, getD-table}
 use Rattle.net.proofs.Keys.{common-i, common-e}
 use Rattle.words.specs.Sets.{setOf, either}
 use Rattle.words.proofs.Bits.{either-at, wide-at}
-use Rattle.firings.specs.Lines.{firingAt, asLine, linesIn}
+use Rattle.firings.specs.Lines.{lying, firingAt, asLine, linesIn}
 use Rattle.firings.specs.declared.Firings.{Firings}
+
+-- the lines that lie in lent arrays, with a flag for each base that a sheet can have
+abbrev pub lines : ℕ → List ℕ → List ℕ → List ℕ → List LiveLine
+lines live ts keys ms = linesIn maxBases (lying live ts keys ms)
 
 -- ---- one by one
 

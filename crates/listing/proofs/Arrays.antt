@@ -12,38 +12,38 @@ use Rattle.net.specs.Limits.{maxBases}
 use Rattle.net.specs.Tests.{pick}
 use Rattle.net.specs.Journal.{LiveLine, noLine, common}
 use Rattle.words.specs.Sets.{setOf, either}
-use Rattle.firings.specs.Lines.{lying, linesIn}
-use Rattle.firings.proofs.Lines.{lines-length, line-at, moved-at}
+use Rattle.firings.specs.Lines.{lying}
+use Rattle.firings.proofs.Lines.{lines, lines-length, line-at, moved-at}
 use Rattle.listing.specs.First.{stepAt, seenTo, leastTo, nextAt}
 
 module _ (live : ℕ) (ts keys ms : List ℕ) where
-  abbrev pub lines : List LiveLine
-  lines = linesIn maxBases (lying live ts keys ms)
+  abbrev ls : List LiveLine
+  ls = lines live ts keys ms
 
-  step-at : (i : ℕ) → i < live → stepAt lines i ≡ getD ts i 0
+  step-at : (i : ℕ) → i < live → stepAt ls i ≡ getD ts i 0
   step-at i h = ap (λ (l : LiveLine). l .transition .0) (line-at maxBases (lying live ts keys ms) i h)
 
-  pub seen-one : 0 < live → setOf maxBases (getD ms 0 0) ≡ seenTo lines 1
+  pub seen-one : 0 < live → setOf maxBases (getD ms 0 0) ≡ seenTo ls 1
   seen-one h = sym (moved-at maxBases (lying live ts keys ms) 0 h)
 
-  pub seen-more : (i w r : ℕ) → i < live → setOf maxBases w ≡ seenTo lines i → setOf maxBases r ≡ either (setOf maxBases w) (setOf maxBases (getD ms i 0)) → setOf maxBases r ≡ seenTo lines (i + 1)
-  seen-more i w r h e q = q ∙ (λ x. either (e x) (sym (moved-at maxBases (lying live ts keys ms) i h) x)) ∙ ap (seenTo lines) (sym (add-one i))
+  pub seen-more : (i w r : ℕ) → i < live → setOf maxBases w ≡ seenTo ls i → setOf maxBases r ≡ either (setOf maxBases w) (setOf maxBases (getD ms i 0)) → setOf maxBases r ≡ seenTo ls (i + 1)
+  seen-more i w r h e q = q ∙ (λ x. either (e x) (sym (moved-at maxBases (lying live ts keys ms) i h) x)) ∙ ap (seenTo ls) (sym (add-one i))
 
-  least-next : (i : ℕ) → 0 < i → leastTo lines i ≡ pick (not (common (seenTo lines i) (getD lines i noLine .moved)) && ltb (stepAt lines i) (stepAt lines (leastTo lines (i - 1)))) i (leastTo lines (i - 1))
+  least-next : (i : ℕ) → 0 < i → leastTo ls i ≡ pick (not (common (seenTo ls i) (getD ls i noLine .moved)) && ltb (stepAt ls i) (stepAt ls (leastTo ls (i - 1)))) i (leastTo ls (i - 1))
   least-next zero h = absurd (let z : ⊥ = omega arith in z)
   least-next (suc i) h = let e : i ≡ suc i - 1 = omega arith in
-      ap (λ (j : ℕ). pick (not (common (seenTo lines (suc i)) (getD lines (suc i) noLine .moved)) && ltb (stepAt lines (suc i)) (stepAt lines (leastTo lines j))) (suc i) (leastTo lines j)) e
+      ap (λ (j : ℕ). pick (not (common (seenTo ls (suc i)) (getD ls (suc i) noLine .moved)) && ltb (stepAt ls (suc i)) (stepAt ls (leastTo ls j))) (suc i) (leastTo ls j)) e
 
-  pub least-more : (i b w r : ℕ) → 0 < i → i < live → b < i → b ≡ leastTo lines (i - 1) → setOf maxBases w ≡ seenTo lines i
-      → r ≡ pick (not (common (setOf maxBases w) (setOf maxBases (getD ms i 0))) && ltb (getD ts i 0) (getD ts b 0)) i b → r ≡ leastTo lines (i + 1 - 1)
+  pub least-more : (i b w r : ℕ) → 0 < i → i < live → b < i → b ≡ leastTo ls (i - 1) → setOf maxBases w ≡ seenTo ls i
+      → r ≡ pick (not (common (setOf maxBases w) (setOf maxBases (getD ms i 0))) && ltb (getD ts i 0) (getD ts b 0)) i b → r ≡ leastTo ls (i + 1 - 1)
   least-more i b w r pos h low e s q =
       let k : i + 1 - 1 ≡ i = omega arith in
       q ∙ (λ x. pick (not (common (s x) (sym (moved-at maxBases (lying live ts keys ms) i h) x)) && ltb (sym (step-at i h) x) (sym (step-at b (omega arith)) x)) i b)
-      ∙ ap (λ (y : ℕ). pick (not (common (seenTo lines i) (getD lines i noLine .moved)) && ltb (stepAt lines i) (stepAt lines y)) i y) e
-      ∙ sym (least-next i pos) ∙ ap (leastTo lines) (sym k)
+      ∙ ap (λ (y : ℕ). pick (not (common (seenTo ls i) (getD ls i noLine .moved)) && ltb (stepAt ls i) (stepAt ls y)) i y) e
+      ∙ sym (least-next i pos) ∙ ap (leastTo ls) (sym k)
 
-  pub next-is : (i b : ℕ) → i ≡ live → b ≡ leastTo lines (i - 1) → b ≡ nextAt lines
-  next-is i b e q = q ∙ ap (λ (y : ℕ). leastTo lines (y - 1)) (e ∙ sym (lines-length maxBases (lying live ts keys ms)))
+  pub next-is : (i b : ℕ) → i ≡ live → b ≡ leastTo ls (i - 1) → b ≡ nextAt ls
+  next-is i b e q = q ∙ ap (λ (y : ℕ). leastTo ls (y - 1)) (e ∙ sym (lines-length maxBases (lying live ts keys ms)))
 
 pub better-low : (c : Bool) (i b r n : ℕ) → b < i → r ≡ pick c i b → i < n → r < i + 1
 better-low true i b r n h e k = omega arith

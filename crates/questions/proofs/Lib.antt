@@ -1,6 +1,6 @@
 -- Each question: refused by one of 1 to 10, or told of the lines that the record holds.
-pub mod Live
-pub mod Ways
-pub mod Lamps
-pub mod Spread
-pub mod Listing
+pub mod LiveAsked
+pub mod WayAsked
+pub mod LampsAsked
+pub mod SpreadAsked
+pub mod ListingAsked

@@ -14,8 +14,8 @@ use Rattle.net.specs.Journal.{LiveLine, noLine, common}
 use Rattle.net.proofs.Tables.{getD-table}
 use Rattle.net.proofs.Firsts.{first-cong}
 use Rattle.words.specs.Sets.{setOf}
-use Rattle.firings.specs.Lines.{lying, linesIn}
-use Rattle.firings.proofs.Lines.{lines-length, moved-at, Alike, common-alike, SameLine}
+use Rattle.firings.specs.Lines.{lying}
+use Rattle.firings.proofs.Lines.{lines, lines-length, moved-at, Alike, common-alike, SameLine}
 use Rattle.reasons.specs.Reasons.{builtAfter, inBoth, laterAt, commonAt}
 
 -- ---- the first of a list from j on
@@ -39,33 +39,33 @@ module _ {X : Type 0} (f : X → Bool) (l : List X) (d : X) where
 -- ---- the lines that lie in the arrays
 
 module _ (live : ℕ) (ts keys ms : List ℕ) where
-  abbrev pub lines : List LiveLine
-  lines = linesIn maxBases (lying live ts keys ms)
+  abbrev ls : List LiveLine
+  ls = lines live ts keys ms
 
   module _ (i : ℕ) where
     -- of those from j on
     abbrev pub from : ℕ → ℕ
-    from j = j + firstAt (builtAfter (getD lines i noLine)) (drop j lines)
+    from j = j + firstAt (builtAfter (getD ls i noLine)) (drop j ls)
 
-    pub later-begin : laterAt lines i ≡ from (i + 1)
+    pub later-begin : laterAt ls i ≡ from (i + 1)
     later-begin = ap from (sym (add-one i))
 
     module _ (low : i < live) (j : ℕ) where
-      inside : j < live → j < length lines
+      inside : j < live → j < length ls
       inside h = rw (lines-length maxBases (lying live ts keys ms)) h
 
       -- the code's test of the firing at j
-      met : j < live → (b : Bool) → common (setOf maxBases (getD ms i 0)) (setOf maxBases (getD ms j 0)) ≡ b → builtAfter (getD lines i noLine) (getD lines j noLine) ≡ b
+      met : j < live → (b : Bool) → common (setOf maxBases (getD ms i 0)) (setOf maxBases (getD ms j 0)) ≡ b → builtAfter (getD ls i noLine) (getD ls j noLine) ≡ b
       met h b e = (λ x. common (moved-at maxBases (lying live ts keys ms) i low x) (moved-at maxBases (lying live ts keys ms) j h x)) ∙ e
 
-      pub later-here : j < live → laterAt lines i ≡ from j → common (setOf maxBases (getD ms i 0)) (setOf maxBases (getD ms j 0)) ≡ true → j ≡ laterAt lines i
-      later-here h e t = from-here (builtAfter (getD lines i noLine)) lines noLine j (laterAt lines i) (inside h) e (met h true t)
+      pub later-here : j < live → laterAt ls i ≡ from j → common (setOf maxBases (getD ms i 0)) (setOf maxBases (getD ms j 0)) ≡ true → j ≡ laterAt ls i
+      later-here h e t = from-here (builtAfter (getD ls i noLine)) ls noLine j (laterAt ls i) (inside h) e (met h true t)
 
-      pub later-on : j < live → laterAt lines i ≡ from j → common (setOf maxBases (getD ms i 0)) (setOf maxBases (getD ms j 0)) ≡ false → laterAt lines i ≡ from (j + 1)
-      later-on h e t = from-on (builtAfter (getD lines i noLine)) lines noLine j (laterAt lines i) (inside h) e (met h false t)
+      pub later-on : j < live → laterAt ls i ≡ from j → common (setOf maxBases (getD ms i 0)) (setOf maxBases (getD ms j 0)) ≡ false → laterAt ls i ≡ from (j + 1)
+      later-on h e t = from-on (builtAfter (getD ls i noLine)) ls noLine j (laterAt ls i) (inside h) e (met h false t)
 
-      pub later-none : j ≡ live → laterAt lines i ≡ from j → live ≡ laterAt lines i
-      later-none q e = sym q ∙ from-end (builtAfter (getD lines i noLine)) lines noLine j (laterAt lines i) (rw (lines-length maxBases (lying live ts keys ms)) (omega arith)) e
+      pub later-none : j ≡ live → laterAt ls i ≡ from j → live ≡ laterAt ls i
+      later-none q e = sym q ∙ from-end (builtAfter (getD ls i noLine)) ls noLine j (laterAt ls i) (rw (lines-length maxBases (lying live ts keys ms)) (omega arith)) e
 
 -- ---- the same bases, in lists of other lengths
 

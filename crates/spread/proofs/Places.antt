@@ -15,10 +15,10 @@ use Rattle.net.specs.Journal.{LiveLine, noLine, sameKey, lineKeys, isLive, comm
 use Rattle.net.specs.declared.Key.{Key}
 use Rattle.net.proofs.Tables.{table-cong}
 use Rattle.words.specs.Sets.{setOf, either}
-use Rattle.firings.specs.Lines.{lying, linesIn}
+use Rattle.firings.specs.Lines.{lying}
 use Rattle.firings.specs.Search.{keysIn, indexOf}
 use Rattle.firings.proofs.Search.{keys-of-lines}
-use Rattle.firings.proofs.Lines.{lines-length, moved-at, Alike, common-alike, either-alike, SameLine}
+use Rattle.firings.proofs.Lines.{lines, lines-length, moved-at, Alike, common-alike, either-alike, SameLine}
 use Rattle.net.specs.declared.Verdict.the-variants.{Accepted}
 use Rattle.spread.specs.Depends.{spread, spreadFrom, spreadOf}
 use Rattle.spread.specs.Spread.{told, notTold, spreadAmong}
@@ -34,25 +34,25 @@ spread-next m l ls = go (common m (l .moved))
     go false = refl
 
 module _ (live : ℕ) (ts keys ms : List ℕ) where
-  abbrev pub lines : List LiveLine
-  lines = linesIn maxBases (lying live ts keys ms)
+  abbrev ls : List LiveLine
+  ls = lines live ts keys ms
 
   -- the loop over the lines after the one at i: it begins, goes on and ends
-  pub from-one : (i : ℕ) → i < live → spread (setOf maxBases (getD ms i 0)) (drop (i + 1) lines) ≡ spreadFrom i lines
-  from-one i h = λ x. spread (sym (moved-at maxBases (lying live ts keys ms) i h) x) (drop (add-one i x) lines)
+  pub from-one : (i : ℕ) → i < live → spread (setOf maxBases (getD ms i 0)) (drop (i + 1) ls) ≡ spreadFrom i ls
+  from-one i h = λ x. spread (sym (moved-at maxBases (lying live ts keys ms) i h) x) (drop (add-one i x) ls)
 
-  pub from-more : (j : ℕ) → j < live → (m r s : List Bool) → spread m (drop j lines) ≡ s
-      → r ≡ pick (common m (setOf maxBases (getD ms j 0))) (either m (setOf maxBases (getD ms j 0))) m → spread r (drop (j + 1) lines) ≡ s
+  pub from-more : (j : ℕ) → j < live → (m r s : List Bool) → spread m (drop j ls) ≡ s
+      → r ≡ pick (common m (setOf maxBases (getD ms j 0))) (either m (setOf maxBases (getD ms j 0))) m → spread r (drop (j + 1) ls) ≡ s
   from-more j h m r s e q =
-      let size : j < length lines = rw (lines-length maxBases (lying live ts keys ms)) h in
-      let at : setOf maxBases (getD ms j 0) ≡ getD lines j noLine .moved = sym (moved-at maxBases (lying live ts keys ms) j h) in
-      (λ x. spread ((q ∙ ap (λ (n : List Bool). pick (common m n) (either m n) m) at) x) (drop (add-one j x) lines))
-      ∙ sym (spread-next m (getD lines j noLine) (drop (suc j) lines)) ∙ ap (spread m) (sym (drop-cons lines j noLine size)) ∙ e
+      let size : j < length ls = rw (lines-length maxBases (lying live ts keys ms)) h in
+      let at : setOf maxBases (getD ms j 0) ≡ getD ls j noLine .moved = sym (moved-at maxBases (lying live ts keys ms) j h) in
+      (λ x. spread ((q ∙ ap (λ (n : List Bool). pick (common m n) (either m n) m) at) x) (drop (add-one j x) ls))
+      ∙ sym (spread-next m (getD ls j noLine) (drop (suc j) ls)) ∙ ap (spread m) (sym (drop-cons ls j noLine size)) ∙ e
 
-  pub from-end : (j : ℕ) → live ≤ j → (m s : List Bool) → spread m (drop j lines) ≡ s → m ≡ s
+  pub from-end : (j : ℕ) → live ≤ j → (m s : List Bool) → spread m (drop j ls) ≡ s → m ≡ s
   from-end j h m s e =
-      let size : length lines ≤ j = rw (lines-length maxBases (lying live ts keys ms)) h in
-      ap (spread m) (sym (drop-of-length-le lines size)) ∙ e
+      let size : length ls ≤ j = rw (lines-length maxBases (lying live ts keys ms)) h in
+      ap (spread m) (sym (drop-of-length-le ls size)) ∙ e
 
 -- ---- by the place of the key
 

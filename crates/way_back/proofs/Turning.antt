@@ -22,9 +22,8 @@ use Rattle.format.specs.NetOf.{netOf}
 use Rattle.layout.specs.Layout as L
 use Rattle.layout.specs.Layout.{elsewhere, astray}
 use Rattle.movers.specs.Tops.{sharing, movedIn, topAt, TopPlace}
-use Rattle.firings.proofs.Lines.{SameLines}
+use Rattle.firings.proofs.Lines.{SameLines, common-alike}
 use Rattle.movers.proofs.Alike.{moved-alike, place-alike}
-use Rattle.spread.proofs.Places.{common-alike}
 use Rattle.marking.specs.declared.Marking.{Marking}
 use Rattle.firings.specs.Lines.{firingAt, asLine, linesIn}
 use Rattle.firings.specs.declared.Firings.{Firings}

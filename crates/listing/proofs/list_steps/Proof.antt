@@ -12,9 +12,8 @@ use Rattle.net.specs.Journal.{LiveLine, transition}
 use Rattle.net.specs.declared.Transition.{Transition}
 use Rattle.bonds.proofs.Fill.{fill-turn}
 use Rattle.firings.specs.Lines.{lying}
-use Rattle.firings.proofs.Lines.{lines-length}
+use Rattle.firings.proofs.Lines.{lines, lines-length}
 use Rattle.listing.specs.First.{stepAt, ordered}
-use Rattle.listing.proofs.Arrays.{lines}
 use Rattle.listing.proofs.Filling.{here, after, filled}
 use Rattle.listing.proofs.list_steps.Statement.{statement}
 use Rattle.listing.proofs.list_steps.Tie as tie

@@ -12,8 +12,9 @@ use Rattle.net.specs.Limits.{maxBases, maxLive}
 use Rattle.net.specs.Tests.{pick}
 use Rattle.net.specs.Journal.{common}
 use Rattle.words.specs.Sets.{setOf}
+use Rattle.firings.proofs.Lines.{lines}
 use Rattle.listing.specs.First.{seenTo, leastTo}
-use Rattle.listing.proofs.Arrays.{lines, seen-one, seen-more, least-more, next-is, better-low}
+use Rattle.listing.proofs.Arrays.{seen-one, seen-more, least-more, next-is, better-low}
 use Rattle.listing.proofs.next_at.Statement.{statement}
 use Rattle.listing.proofs.next_at.Tie as tie
 

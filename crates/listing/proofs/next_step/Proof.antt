@@ -9,11 +9,10 @@ use lib.ListN.{length}
 use Rattle.net.specs.Limits.{maxBases}
 use Rattle.net.specs.Journal.{LiveLine, transition}
 use Rattle.firings.specs.Lines.{lying, linesIn}
-use Rattle.firings.proofs.Lines.{line-at}
+use Rattle.firings.proofs.Lines.{lines, line-at}
 use Rattle.firings.specs.declared.Firing.{Firing}
 use Rattle.firings.specs.declared.Firings.{Firings}
 use Rattle.listing.specs.First.{stepAt, nextAt, withoutAt}
-use Rattle.listing.proofs.Arrays.{lines}
 use Rattle.listing.proofs.Closing.{lines-without, closed-long}
 use Rattle.listing.proofs.next_step.Statement.{statement}
 use Rattle.listing.proofs.next_step.Tie as tie

@@ -3,7 +3,7 @@
 use borrow.Author.Needs.{needs}
 use mathlib.Core.Path.{_∙_}
 use Rattle.sound.proofs.Holds.{live-few, keys-rise}
-use Rattle.questions.proofs.Lamps.{lamp-refused, lamp-asked}
+use Rattle.questions.proofs.LampsAsked.{lamp-refused, lamp-asked}
 use Rattle.questions.proofs.can_undo.Statement.{statement}
 use Rattle.questions.proofs.can_undo.Tie as tie
 

@@ -2,7 +2,7 @@
 -- Assumes nothing but the laws of proofs/.
 use borrow.Author.Needs.{needs}
 use Rattle.sound.proofs.Holds.{keys-rise}
-use Rattle.questions.proofs.Lamps.{lamps-refused, lamps-shown}
+use Rattle.questions.proofs.LampsAsked.{lamps-refused, lamps-shown}
 use Rattle.questions.proofs.lamps.Statement.{statement}
 use Rattle.questions.proofs.lamps.Tie as tie
 

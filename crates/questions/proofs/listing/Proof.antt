@@ -2,7 +2,7 @@
 -- Assumes nothing but the laws of proofs/.
 use borrow.Author.Needs.{needs}
 use Rattle.sound.proofs.Holds.{live-few, firings-sized}
-use Rattle.questions.proofs.Listing.{listing-refused, listing-asked}
+use Rattle.questions.proofs.ListingAsked.{listing-refused, listing-asked}
 use Rattle.questions.proofs.listing.Statement.{statement}
 use Rattle.questions.proofs.listing.Tie as tie
 

@@ -1,7 +1,7 @@
 -- `questions::live_firings` meets its contract.
 -- Assumes nothing but the laws of proofs/.
 use borrow.Author.Needs.{needs}
-use Rattle.questions.proofs.Live.{list-refused, list-given}
+use Rattle.questions.proofs.LiveAsked.{list-refused, list-given}
 use Rattle.questions.proofs.live_firings.Statement.{statement}
 use Rattle.questions.proofs.live_firings.Tie as tie
 

@@ -2,7 +2,7 @@
 -- Assumes nothing but the laws of proofs/.
 use borrow.Author.Needs.{needs}
 use Rattle.sound.proofs.Holds.{live-few, keys-rise}
-use Rattle.questions.proofs.Spread.{spread-refused, spread-asked}
+use Rattle.questions.proofs.SpreadAsked.{spread-refused, spread-asked}
 use Rattle.questions.proofs.spread.Statement.{statement}
 use Rattle.questions.proofs.spread.Tie as tie
 

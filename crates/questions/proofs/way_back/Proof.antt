@@ -2,7 +2,7 @@
 -- Assumes nothing but the laws of proofs/.
 use borrow.Author.Needs.{needs}
 use mathlib.Core.Path.{_∙_}
-use Rattle.questions.proofs.Ways.{way-refused, way-asked, way-number}
+use Rattle.questions.proofs.WayAsked.{way-refused, way-asked, way-number}
 use Rattle.questions.proofs.way_back.Statement.{statement}
 use Rattle.questions.proofs.way_back.Tie as tie
 

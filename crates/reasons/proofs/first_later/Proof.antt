@@ -8,9 +8,10 @@ use Prim.Native.Nat.{ℕ, _+_, _-_, _≤_}
 use lib.ListN.{getD}
 use Rattle.net.specs.Limits.{maxBases, maxLive}
 use Rattle.words.specs.Sets.{setOf}
+use Rattle.firings.proofs.Lines.{lines}
 use Rattle.reasons.specs.Reasons.{laterAt}
 use Rattle.net.specs.Journal.{common}
-use Rattle.reasons.proofs.Later.{lines, from, later-begin, later-here, later-on, later-none}
+use Rattle.reasons.proofs.Later.{from, later-begin, later-here, later-on, later-none}
 use Rattle.reasons.proofs.first_later.Statement.{statement}
 use Rattle.reasons.proofs.first_later.Tie as tie
 

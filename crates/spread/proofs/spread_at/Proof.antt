@@ -8,8 +8,9 @@ use Prim.Native.Nat.{ℕ, _+_, _-_, _≤_}
 use lib.ListN.{drop}
 use Rattle.net.specs.Limits.{maxBases, maxLive}
 use Rattle.words.specs.Sets.{setOf}
+use Rattle.firings.proofs.Lines.{lines}
 use Rattle.spread.specs.Depends.{spread, spreadFrom}
-use Rattle.spread.proofs.Places.{lines, from-one, from-more, from-end}
+use Rattle.spread.proofs.Places.{from-one, from-more, from-end}
 use Rattle.spread.proofs.spread_at.Statement.{statement}
 use Rattle.spread.proofs.spread_at.Tie as tie
 
