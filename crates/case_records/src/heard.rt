@@ -22,6 +22,11 @@ pub const UNDONE: usize = 3;
 
 pub const REFUSED: usize = 4;
 
+// No command yet, and a tally that has one number in each count.
+pub fn begun(tally: u64) -> [u64; HEARD] {
+    [0, 0, tally, tally, tally]
+}
+
 pub fn tally_in(h: &[u64; HEARD]) -> Tally {
     Tally {
         fired: (h[FIRED] % 65536) as u16,

@@ -1,9 +1,7 @@
 // Sheets by lot, the same on every run: numbers (random), what a sheet is like (plan), its bytes (sheets); and commands by lot
-// from the second engine's state (commands);
-// rows of a text that say which (rows), and what is counted of them (counts). Nothing here cites the engine: document 01's section on
+// from the second engine's state (commands); rows of a text that say which (rows). Nothing here cites the engine: document 01's section on
 // the sheet says how one is written.
 pub mod commands;
-pub mod counts;
 pub mod plan;
 pub mod random;
 pub mod rows;

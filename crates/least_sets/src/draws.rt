@@ -21,39 +21,23 @@ pub fn some_command(sheet: &[u8], s: &mut [u64], seed: u64, i: u64, room: u64) -
     command_of(sheet, s, seed, i, room)
 }
 
-// The word has the places of the parts, as module table has them, or is 0.
-struct Drawn {
-    base: u64,
-    number: u64,
-    word: u64,
-}
-
-// Layout j of all of a sheet.
-fn in_turn(places: u64, j: u64) -> Drawn {
-    Drawn {
-        base: places % 256 + 1,
-        number: j,
-        word: 0,
+// The number of layout j: in turn of all of a sheet, or by lot.
+fn number_of(seed: u64, j: u64, all: bool) -> u64 {
+    if all {
+        return j;
     }
+    let high = mixed(seed, j, 0, 8) % 4294967296;
+    let low = mixed(seed, j, 1, 8) % 4294967296;
+    high * 4294967296 + low
 }
 
-fn word_by_lot(table: &[u64], seed: u64, j: u64) -> u64 {
-    if j % 2 == 0 {
+// The places of the parts after some set was taken back, as module table has them, or 0.
+fn word_of(table: &[u64], seed: u64, j: u64, all: bool) -> u64 {
+    if all | (j % 2 == 0) {
         return 0;
     }
     let set = below(mixed(seed, j, 2, 8), table.len() as u64);
     get(table, set as usize)
-}
-
-// Layout j by lot. One to three parts are named, on the whole.
-fn by_lot(table: &[u64], places: u64, parts: u64, seed: u64, j: u64) -> Drawn {
-    let high = mixed(seed, j, 0, 8) % 4294967296;
-    let low = mixed(seed, j, 1, 8) % 4294967296;
-    Drawn {
-        base: places % 256 + parts % 256,
-        number: high * 4294967296 + low,
-        word: word_by_lot(table, seed, j),
-    }
 }
 
 // Digit 0 stands for any place, and so does one that is too high.
@@ -71,34 +55,19 @@ fn wanted_of(digit: u64, places: u64, word: u64, b: u64) -> u64 {
     }
 }
 
-fn lay_digits(buf: &mut [u8], places: u64, parts: u64, d: Drawn) {
-    let base = d.base;
-    let word = d.word;
-    let mut rest = d.number;
-    let mut b: u64 = 0;
-    while b < parts {
-        put(
-            buf,
-            b as usize,
-            wanted_of(below(rest, base), places, word, b),
-        );
-        rest = over(rest, base);
-        b += 1;
-    }
-}
-
-fn layout_of(table: &[u64], places: u64, parts: u64, seed: u64, j: u64, all: bool) -> Drawn {
-    if all {
-        in_turn(places, j)
-    } else {
-        by_lot(table, places, parts, seed, j)
-    }
-}
-
-// Layout j on a sheet, of all or by lot.
+// Layout j on a sheet, of all or by lot, where one to three parts are named, on the whole.
 pub fn lay_layout(buf: &mut [u8], sheet: &[u8], table: &[u64], seed: u64, j: u64, all: bool) {
     let places = byte(sheet, 1) as u64;
     let parts = byte(sheet, 2) as u64;
-    let d = layout_of(table, places, parts, seed, j, all);
-    lay_digits(buf, places, parts, d);
+    let digits = if all { 1 } else { parts };
+    let base = places + digits % 256;
+    let word = word_of(table, seed, j, all);
+    let mut rest = number_of(seed, j, all);
+    let mut b: u64 = 0;
+    while b < parts {
+        let wanted = wanted_of(below(rest, base), places, word, b);
+        put(buf, b as usize, wanted);
+        rest = over(rest, base);
+        b += 1;
+    }
 }
