@@ -1,5 +1,7 @@
 // Firing and taking back in place (document 01, commands, record, tally): what a command of kind 1, or of kind 2 or 3, does to the arrays
 // of a record that are lent.
+#![tactic(auto)]
+
 ghost use Rattle.bonds.specs.Ends.{bonds_in};
 ghost use Rattle.labels.specs.Labelled.{Labelled};
 ghost use Rattle.format.specs.Parts.{bases_of};

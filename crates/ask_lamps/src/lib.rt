@@ -1,6 +1,8 @@
 // A record's lamps (document 02, T-06) by the customer's calls, held against kind 3 on a copy of the record, and against kind 3 on a copy
 // of the second engine's state. What is counted of them, and of the entries of the table of last movers: counts. What
 // differs is a sum: 1 a lamp, 2 kind 3 on a copy; of all lamps 4 the number, 8 the count, 16 a flag.
+#![tactic(auto)]
+
 pub mod counts;
 
 use case_records::heard::answer_to;

@@ -2,6 +2,8 @@
 // of all orders (orders), fired and listed again (again), and held against those of other sessions (pairs). What differs is a sum: 1 the
 // answer to a command, 2 to 8 the listing (told), 16 the first of all orders; of the steps fired once more 32 the live firings, 64 the
 // marking, 128 the listing; 256 of a pair, whether the listings are equal.
+#![tactic(auto)]
+
 mod again;
 mod orders;
 mod pairs;

@@ -1,6 +1,8 @@
 // What a session comes to on both engines: everything that they answer and hold compared after each command (compare, live), what is counted
 // of it (counts), commands by letters (letters); the session's commands as one block (blocks), and as an input of the exam program with
 // its whole output (outputs, input, lines, writer).
+#![tactic(auto)]
+
 mod blocks;
 pub mod compare;
 pub mod counts;

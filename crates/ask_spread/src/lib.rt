@@ -2,6 +2,8 @@
 // history (relation), by the sets that can be taken back (subsets), and leave the others as they are in the forward run (forward).
 // For any other serial the call is refused as 19. What differs is a sum: 1 the number, 2 the parts, 4 more live firings than can be compared;
 // of the sets 8 that none is the least, 16 the parts of the least; of the run 32 a command, 64 a place, 128 a coupling.
+#![tactic(auto)]
+
 mod counts;
 mod forward;
 mod relation;
@@ -35,7 +37,7 @@ fn set_of(parts: [bool; MAX_BASES]) -> u64 {
 }
 
 // What the call gives.
-#[derive(Drop)]
+#[derive(Clone, Copy)]
 struct Told {
     number: u64,
     set: u64,

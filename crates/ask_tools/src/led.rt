@@ -5,7 +5,7 @@ use generated::drawn::undo_bytes;
 use oracle::{UNDONE, reply};
 use session::Record;
 
-#[derive(Drop)]
+#[derive(Clone, Copy)]
 pub struct Led {
     pub session: Record,
     pub count: u64,

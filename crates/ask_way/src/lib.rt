@@ -1,5 +1,7 @@
 // The way back to a wanted layout (document 02, T-04): for many layouts the answer that is expected is read off the table of all sets that
 // the second engine took back (crate least_sets), and the question is asked (judge). What is counted of the sets: counts.
+#![tactic(auto)]
+
 mod counts;
 mod judge;
 

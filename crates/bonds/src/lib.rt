@@ -1,5 +1,7 @@
 // Bonds where they lie, in two lent slices of ends, in strict order: the place of a bond in that order, by halving, and
 // whether it is there. Nothing is copied.
+#![tactic(auto)]
+
 ghost use Rattle.std.specs.Prelude.{◌≡◌, ◌≤◌, length};
 ghost use Rattle.net.specs.Net.{bond, same_bond, less_bond, has_bond};
 ghost use Rattle.net.specs.Sorted.{Ascending};

@@ -1,5 +1,7 @@
 // Records in the programs of cases: commands by the customer's call (heard), and whether two records are the same in every entry,
 // used or not. A refused command has to hand back the very record.
+#![tactic(auto)]
+
 pub mod heard;
 
 use firings::Firings;

@@ -1,5 +1,7 @@
 // The closing lines of the exam program into a lent buffer, over plain numbers: places, bonds, live keys, the tally (01, the
 // exam program). Each writer answers where its text ends; the whole output sees to the room.
+#![tactic(auto)]
+
 ghost use Rattle.std.specs.Prelude.{◌+◌, ◌*◌, ◌≤◌, length};
 ghost use Rattle.bonds.specs.Ends.{bonds_in};
 ghost use Rattle.text.specs.Writes.{Wrote};

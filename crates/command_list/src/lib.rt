@@ -1,4 +1,6 @@
 // A list of commands as bytes (document 01, commands, record, tally): three bytes each, a last one of fewer among them.
+#![tactic(auto)]
+
 ghost use Rattle.std.specs.Prelude.{◌≡◌, ◌<◌, length, take, drop};
 ghost use Rattle.command_list.specs.Commands.{how_many};
 ghost use Rattle.command_list.specs.Block.{unfit_for, turned_by};

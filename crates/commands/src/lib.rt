@@ -1,5 +1,7 @@
 // What a command's bytes say, and what an answer says (document 01, commands, record, tally).
 // What a command in place gives; what it does to a record's arrays is in acting and performing.
+#![tactic(auto)]
+
 ghost use Rattle.std.specs.Prelude.{◌≡◌, ◌<◌};
 ghost use Rattle.commands.specs.Answers.{decoded_of, word_of, value_of, value_bound};
 ghost use Rattle.commands.specs.Doing.{refused_in};
@@ -8,7 +10,7 @@ use format::{byte_at, word_at};
 use net::{Key, Transition};
 
 // A command that can be read.
-#[derive(Drop)]
+#[derive(Clone, Copy)]
 pub enum Command {
     Fire(Transition),
     UndoLast,
@@ -16,14 +18,14 @@ pub enum Command {
 }
 
 // What three bytes say.
-#[derive(Drop)]
+#[derive(Clone, Copy)]
 pub enum Decoded {
     Given(Command),
     Unreadable,
 }
 
 // The answer to a command; Refused has the number of document 01's list.
-#[derive(Drop)]
+#[derive(Clone, Copy)]
 pub enum Answer {
     Fired,
     Undone,
@@ -76,7 +78,7 @@ pub fn value_of(a: Answer, key: Key) -> u16
 
 // What a command in place gives: the answer, the key (0 where it is refused), how many bonds and live firings there are then, and
 // the highest key given.
-#[derive(Drop)]
+#[derive(Clone, Copy)]
 pub struct Done {
     pub answer: Answer,
     pub key: Key,

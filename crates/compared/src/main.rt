@@ -2,6 +2,8 @@
 // each command all that they answer and hold is compared, and each question of document 02 is asked in both ways (play, asking). What
 // is run stands in the file stdin, a row for each kind of sheet (generated, rows). Prints for each how many comparisons were made and how
 // many differed, with the first that did; the counts that have to reach a floor; and what the exam program writes at the most commands.
+#![tactic(auto)]
+
 mod altered;
 mod asking;
 mod play;

@@ -1,5 +1,7 @@
 // The desk: `desk FILE..` goes through scripts, `desk` through one on standard input; `desk make FILE` writes the exam
 // program's input that a script says, `desk show FILE` prints such an input as a script. docs/DESK.md has the lines.
+#![tactic(auto)]
+
 mod program;
 
 ghost use Rattle.std.specs.Prelude.{◌<◌, ◌≤◌};

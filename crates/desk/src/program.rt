@@ -24,7 +24,7 @@ fn answer_room() -> [u8; ANSWER] {
 }
 
 // What is done with a file.
-#[derive(Drop)]
+#[derive(Clone, Copy)]
 pub enum Task {
     Script,
     Make,

@@ -1,5 +1,7 @@
 // Whether a marking enables a transition (document 01, refusals 13 to 16). The marking lies in lent arrays.
 // The transition is read from its bytes in the caller's sheet.
+#![tactic(auto)]
+
 ghost use Rattle.std.specs.Prelude.{◌≡◌, not, List, ℕ, ◌+◌, ◌<◌, ◌≤◌, eqb, length, get_or};
 ghost use Rattle.net.specs.Limits.{max_bases, max_bonds};
 ghost use Rattle.net.specs.Tests.{pick, any, keep};

@@ -1,5 +1,7 @@
 // The bytes of a net (01, the sheet), written into a lent buffer: two-byte numbers and pairs.
 // Every contract says all of the buffer (`Wrote`) and answers where the bytes end.
+#![tactic(auto)]
+
 ghost use Rattle.std.specs.Prelude.{◌++◌, ◌+◌, ◌≤◌, length};
 ghost use Rattle.text.specs.Writes.{Wrote};
 ghost use Rattle.encode.specs.Encoding.{word};

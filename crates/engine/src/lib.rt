@@ -1,5 +1,7 @@
 // Firing a transition and taking it back (document 01), in place on the arrays that hold a marking, in its form before and
 // after, and on the labels by its bonds. The transition is read from its bytes in the caller's sheet.
+#![tactic(auto)]
+
 ghost use Rattle.std.specs.Prelude.{◌≡◌, true, not, List, [], ◌∷◌, ℕ, ◌<◌, ◌≤◌, length, get_or};
 ghost use Rattle.net.specs.Limits.{max_bases, max_bonds};
 ghost use Rattle.net.specs.Tests.{keep};

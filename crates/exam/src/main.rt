@@ -1,5 +1,7 @@
 // The exam program (document 01): reads what the output looks at, has the whole output written into a buffer, and writes it
 // once. What the output is, byte for byte, is `output` in the crate output; how input is read is the crate reading.
+#![tactic(auto)]
+
 ghost use Rattle.std.specs.Prelude.{◌≡◌, length};
 ghost use Rattle.output.specs.Input.{max_input};
 

@@ -1,5 +1,7 @@
 // The closing lines of what a record holds (document 01, the exam program): places, couplings, live firings, tally.
 // The whole output sees to the room.
+#![tactic(auto)]
+
 ghost use Rattle.std.specs.Prelude.{◌≡◌, ◌+◌, ◌<◌, ◌≤◌, length, take};
 ghost use Rattle.net.specs.Limits.{max_bases, max_bonds, max_live};
 ghost use Rattle.firings.specs.Search.{keys_in};

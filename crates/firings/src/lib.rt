@@ -1,5 +1,7 @@
 // The live firings of a session record, in three lent arrays of numbers: one taken out, their form, their keys.
 // Entries after the live ones hold 0.
+#![tactic(auto)]
+
 ghost use Rattle.std.specs.Prelude.{◌≡◌, true, ◌+◌, ◌-◌, ◌<◌, ◌≤◌, ltb, length, get_or};
 ghost use Rattle.net.specs.Limits.{max_bases, max_live};
 ghost use Rattle.net.specs.Journal.{transition};
@@ -14,7 +16,7 @@ use net::{Key, MAX_KEY, MAX_LIVE, Transition};
 use words::low_bits;
 
 // A live firing. The transition's number is kept in one byte; `transition_of` is what reads it. The moved bases are a word.
-#[derive(Drop)]
+#[derive(Clone, Copy)]
 pub struct Firing {
     pub transition: u8,
     pub key: Key,
@@ -30,7 +32,7 @@ impl Firing {
 }
 
 // The live firings as a record keeps them: the firing at i is the numbers at i.
-#[derive(Drop)]
+#[derive(Clone, Copy)]
 pub struct Firings {
     pub live: usize,
     pub transitions: [u8; MAX_LIVE],

@@ -1,5 +1,7 @@
 // The byte format of a sheet (document 01, the sheet): total readers of its numbers, its parts and a transition's bytes.
 // specs/ says what the bytes mean, up to the net that they describe; which sheets are accepted is the crate sheet's.
+#![tactic(auto)]
+
 ghost use Rattle.std.specs.Prelude.{◌≡◌, ◌+◌, ◌*◌, ◌<◌, ◌≤◌, length};
 ghost use Rattle.net.specs.Net.{less_bond};
 ghost use Rattle.format.specs.Bytes.{outside, byte_at, word_at, base_at, entry_at, bond_at, entry_width, bond_width};

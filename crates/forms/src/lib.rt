@@ -1,5 +1,7 @@
 // Does a line of a text have a form? A form is a line itself: its words are to be there, its numbers are the greatest allowed.
 // `fits` says it of words and numbers.
+#![tactic(auto)]
+
 ghost use Rattle.std.specs.Prelude.{◌≡◌, ◌&&◌, ◌-◌, ◌≤◌, eqb, length, drop, get_or};
 ghost use Rattle.std.proofs.Math.Seq.{slice};
 ghost use Rattle.net.specs.Tests.{same_list, pick};

@@ -1,5 +1,7 @@
 // The marking that a session starts from: the sheet's start places and start couplings (document 01, the sheet).
 // Read from the sheet's bytes into a marking in its form.
+#![tactic(auto)]
+
 ghost use Rattle.std.specs.Prelude.{◌≡◌, ◌≤◌, length};
 ghost use Rattle.net.specs.Limits.{max_bases, max_bonds};
 ghost use Rattle.net.specs.Tests.{table};
@@ -25,7 +27,7 @@ fn placed(s: &[u8]) -> [Place; MAX_BASES]
     places
 }
 
-#[derive(Drop)]
+#[derive(Clone, Copy)]
 struct Ends {
     lo: [Base; MAX_BONDS],
     hi: [Base; MAX_BONDS],

@@ -3,7 +3,7 @@
 use crate::random::{below, falls, mixed, over};
 use oracle::sets::get;
 
-#[derive(Drop)]
+#[derive(Clone, Copy)]
 pub struct Plan {
     pub places: u64,
     pub bases: u64,

@@ -1,5 +1,7 @@
 // Bases grouped by label, as a firing or a taking back moves them: which bases move, and bases sent in place.
 // The label of a group stands for it: members[x] is the set of the bases with label x.
+#![tactic(auto)]
+
 ghost use Rattle.std.specs.Prelude.{◌≡◌, true, false, ◌&&◌, List, ℕ, ◌<◌, eqb, length, get_or};
 ghost use Rattle.net.specs.Limits.{max_bases};
 ghost use Rattle.net.specs.Tests.{pick, table};

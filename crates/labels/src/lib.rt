@@ -1,5 +1,7 @@
 // Labels in lent arrays: connected bases have one label; and the set of the bases of each label.
 // Bonds that are put in join labels; where bonds go, the labels are made anew over parents.
+#![tactic(auto)]
+
 ghost use Rattle.std.specs.Prelude.{◌≡◌, List, eqb, ℕ, ◌+◌, ◌<◌, ◌≤◌, length, get_or};
 ghost use Rattle.net.specs.Limits.{max_bases};
 ghost use Rattle.net.specs.Tests.{table};

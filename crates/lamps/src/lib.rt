@@ -1,5 +1,7 @@
 // The lamps of a record's live firings (document 02, T-06), from the arrays that hold them and the table of last movers.
 // The session's calls check the sheet and the record first.
+#![tactic(auto)]
+
 ghost use Rattle.std.specs.Prelude.{◌≡◌, true, List, ℕ, ◌<◌, ◌≤◌};
 ghost use Rattle.net.specs.Limits.{max_bases, max_live};
 ghost use Rattle.firings.specs.Lines.{lying, lines_in};
@@ -13,7 +15,7 @@ use movers::table::on_top;
 use net::{Key, MAX_BASES, MAX_LIVE, Verdict};
 
 // The answer, how many firings are live, and a flag for each of them in its order: whether it can come off. Unused flags are no.
-#[derive(Drop)]
+#[derive(Clone, Copy)]
 pub struct Lamps {
     pub answer: Verdict,
     pub count: usize,

@@ -1,5 +1,7 @@
 // A wanted layout (document 02, T-04): a byte for each base, the place where it is wanted, or 255 for any place.
 // Refusal 27, and the first base that is not where it is wanted.
+#![tactic(auto)]
+
 ghost use Rattle.std.specs.Prelude.{◌≡◌, ◌≤◌, length};
 ghost use Rattle.net.specs.Limits.{max_bases};
 ghost use Rattle.layout.specs.Layout.{elsewhere, no_such_place, unfit_layout, wrong_base};

@@ -104,7 +104,7 @@ fn outcome_holds(o: BlockOutcome, count: usize, after: Record) -> bool {
 }
 
 // What a record, a tally and a sheet are for the blocks that follow.
-#[derive(Drop)]
+#[derive(Clone, Copy)]
 struct Lent {
     record: Record,
     tally: Tally,

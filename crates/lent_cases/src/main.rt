@@ -1,5 +1,7 @@
 // What is lent to a call, at lengths that no script of the desk has: lists of firings and buffers for pages (pages), buffers for answer
 // lines (lines), blocks and lists for their answers (blocks). The file stdout was worked out from documents 01 and 02.
+#![tactic(auto)]
+
 mod blocks;
 mod lines;
 mod pages;

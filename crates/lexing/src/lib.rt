@@ -1,12 +1,14 @@
 // Words and numbers in a text: the next of them from a position on. specs/Tokens says what a text holds, specs/Found how
 // an answer stands for it.
+#![tactic(auto)]
+
 ghost use Rattle.std.specs.Prelude.{◌≡◌, ◌-◌, ◌<◌, ◌≤◌, ◌&&◌, leb, length, drop};
 ghost use Rattle.std.proofs.Math.Seq.{slice};
 ghost use Rattle.lexing.specs.Tokens.{letter, digit, blank, in_line, front, past, ends, on_digit, joins, worded, numbered, ended, begins, next_of, more, value, too_much};
 ghost use Rattle.lexing.specs.Found.{passes, Reaches, Stands};
 
 // What stands at a position. A word is given by where it stands; a number is below 65,536, or 65,536 where it is not.
-#[derive(Drop)]
+#[derive(Clone, Copy)]
 pub enum Kind {
     Word,
     Number(u32),
@@ -16,7 +18,7 @@ pub enum Kind {
 }
 
 // A piece of a text: from where to where, and what it is.
-#[derive(Drop)]
+#[derive(Clone, Copy)]
 pub struct Piece {
     pub kind: Kind,
     pub from: usize,
@@ -24,7 +26,7 @@ pub struct Piece {
 }
 
 // The classes of letters.
-#[derive(Drop)]
+#[derive(Clone, Copy)]
 pub enum Class {
     Blank,
     Letter,

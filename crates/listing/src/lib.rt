@@ -1,5 +1,7 @@
 // The listing of a record's live firings (document 02, T-09), from the arrays that hold them.
 // The session's call checks the sheet and the record first.
+#![tactic(auto)]
+
 ghost use Rattle.std.specs.Prelude.{◌≡◌, List, ℕ, ◌-◌, ◌<◌, ◌≤◌, length};
 ghost use Rattle.net.specs.Limits.{max_bases, max_live};
 ghost use Rattle.net.specs.Tests.{pick};
@@ -13,7 +15,7 @@ use net::{MAX_LIVE, Transition, Verdict};
 use words::{shares, union};
 
 // The answer, how many firings are live, and their step numbers in the order of the listing. Unused entries hold 0.
-#[derive(Drop)]
+#[derive(Clone, Copy)]
 pub struct Listing {
     pub answer: Verdict,
     pub count: usize,

@@ -1,5 +1,7 @@
 // The live firings of a record as a list of firing records (document 02, T-01), from the three arrays that hold them.
 // The session's call checks the sheet and the record first.
+#![tactic(auto)]
+
 ghost use Rattle.std.specs.Prelude.{◌≡◌, ◌<◌};
 ghost use Rattle.net.specs.Limits.{max_live};
 ghost use Rattle.firings.specs.Lines.{lying};
@@ -9,7 +11,7 @@ use firings::{Firing, firing_at};
 use net::{Key, MAX_LIVE, Verdict};
 
 // The answer, how many firings are live, and those firings in their order. Unused entries hold 0.
-#[derive(Drop)]
+#[derive(Clone, Copy)]
 pub struct LiveFirings {
     pub answer: Verdict,
     pub count: usize,

@@ -1,5 +1,7 @@
 // A marking: the places of the bases, and the bonds in ascending order; unused entries are 0.
 // Bonds go in and out where they lie, at their place in the order.
+#![tactic(auto)]
+
 ghost use Rattle.std.specs.Prelude.{◌≡◌, not, ◌∷◌, ◌++◌, ◌+◌, ◌-◌, ◌<◌, ◌≤◌, length, get_or, drop};
 ghost use Rattle.net.specs.Limits.{max_bonds};
 ghost use Rattle.net.specs.Tests.{keep, table};
@@ -13,7 +15,7 @@ ghost use Rattle.marking.specs.Held.{holding_bonds};
 use bonds::{rank, stands_at};
 use net::{Base, Bond, MAX_BASES, MAX_BONDS, Place};
 
-#[derive(Drop)]
+#[derive(Clone, Copy)]
 pub struct Marking {
     pub places: [Place; MAX_BASES],
     pub count: usize,

@@ -1,5 +1,7 @@
 // The form of a marking (document 01, the record: unused entries hold 0) as a test, and whether two markings
 // are the same; each lies in lent arrays. Every entry is looked at: no early exit within an array.
+#![tactic(auto)]
+
 ghost use Rattle.std.specs.Prelude.{◌≡◌, true, ◌≤◌, eqb, length, take};
 ghost use Rattle.net.specs.Limits.{max_bases, max_bonds};
 ghost use Rattle.net.specs.Tests.{same_list};

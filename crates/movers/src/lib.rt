@@ -1,5 +1,7 @@
 // Which live firing moved a base last, and which stands on top of it, by the moved sets of the live firings in their order.
 // What the way back (document 02, T-04) takes back first; the table that a record keeps (T-06) is in its own module.
+#![tactic(auto)]
+
 pub mod table;
 
 ghost use Rattle.std.specs.Prelude.{◌≡◌, List, ℕ, suc, ◌<◌, ◌≤◌, get_or, drop};

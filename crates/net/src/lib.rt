@@ -1,5 +1,7 @@
 // The types and limits that definitions and code share; one method, the number of an answer. specs/ has document 01's definitions
 // of a net, of firing, taking back and the session book, proofs/ what holds of them, for any number of bases.
+#![tactic(auto)]
+
 ghost use Rattle.std.specs.Prelude.{◌≡◌};
 ghost use Rattle.net.specs.Checks.{verdict_number};
 
@@ -9,14 +11,14 @@ pub type Place = u8;
 pub type Base = u8;
 
 // A bond (a coupling) of the bases lo < hi.
-#[derive(Drop)]
+#[derive(Clone, Copy)]
 pub struct Bond {
     pub lo: Base,
     pub hi: Base,
 }
 
 // An entry of a transition: the base, the place that it is taken from, the place that it is put in.
-#[derive(Drop)]
+#[derive(Clone, Copy)]
 pub struct Entry {
     pub base: Base,
     pub from: Place,
@@ -24,15 +26,15 @@ pub struct Entry {
 }
 
 // A transition's number (a step number), as wide as a command's number.
-#[derive(Drop)]
+#[derive(Clone, Copy)]
 pub struct Transition(pub u16);
 
 // A firing's key (a serial).
-#[derive(Drop)]
+#[derive(Clone, Copy)]
 pub struct Key(pub u16);
 
 // The answer of a call that gives what it is asked for, or is turned away by a number of the papers' lists.
-#[derive(Drop)]
+#[derive(Clone, Copy)]
 pub enum Verdict {
     Accepted,
     Refused(u8),

@@ -4,6 +4,8 @@
 // answers rightly is what the comparison is about. Its state is one lent slice of 30,917 words: tables (module sets), the
 // history (module history), a tally that is counted from the replies alone, and the highest key given, since no key is given
 // twice (document 02, T-03). The sheet has been accepted.
+#![tactic(auto)]
+
 mod arcs;
 mod con;
 mod forward;

@@ -1,5 +1,7 @@
 // The whole output of the exam program, from its whole input (document 01, the exam program): every command is performed
 // once, on the record that the one before handed back, and the session is not replayed.
+#![tactic(auto)]
+
 ghost use Rattle.std.specs.Prelude.{◌≡◌, true, ◌+◌, ◌*◌, ◌<◌, ◌≤◌, length, take, drop};
 ghost use Rattle.net.specs.Checks.{clear};
 ghost use Rattle.format.specs.NetOf.{net_of};

@@ -1,5 +1,7 @@
 // Live firings on a ruled page (document 02, T-01): the list that is handed in, read into plain numbers, and the page of it.
 // The functions that take the list are proved by walks by hand: a slice of structs is not covered.
+#![tactic(auto)]
+
 ghost use Rattle.std.specs.Prelude.{◌≡◌, [], ◌∷◌, ◌++◌, ltb, take};
 ghost use Rattle.net.specs.Tests.{pick};
 ghost use Rattle.page_lines.specs.Page.{rows_in};
@@ -13,7 +15,7 @@ use page_lines::lay_page;
 use words::count_bases;
 
 // The numbers of a list's firings: as many as a list may have.
-#[derive(Drop)]
+#[derive(Clone, Copy)]
 struct Rows {
     count: usize,
     keys: [u16; MAX_LIVE],

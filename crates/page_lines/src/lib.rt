@@ -1,5 +1,7 @@
 // A ruled page of live firings into a lent buffer, over plain numbers (document 02, T-01). Each writer says every byte of
 // the buffer (`Wrote`) and answers where its text ends; `lay_page` looks at the buffer and the numbers first.
+#![tactic(auto)]
+
 ghost use Rattle.std.specs.Prelude.{◌≡◌, ◌+◌, ◌-◌, ◌*◌, ◌<◌, ◌≤◌, ◌++◌, length};
 ghost use Rattle.net.specs.Limits.{max_live};
 ghost use Rattle.net.specs.Checks.{first, verdict_number};

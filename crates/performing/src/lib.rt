@@ -1,5 +1,7 @@
 // A command in place, by its bytes: 21, 11, or what its kind does (document 01, commands, record, tally).
 // The record is sound and the sheet accepted; nothing of either is checked again.
+#![tactic(auto)]
+
 ghost use Rattle.bonds.specs.Ends.{bonds_in};
 ghost use Rattle.labels.specs.Labelled.{Labelled};
 ghost use Rattle.net.specs.Journal.{act};

@@ -1,5 +1,7 @@
 // What is asked of a record (document 02, T-01, T-04, T-06, T-08, T-09): its live firings as a list, the way back, the lamps, how far one
 // firing spreads, the listing. Sheet and record are checked first; no call has a tally in sight, and the record stays the caller's.
+#![tactic(auto)]
+
 ghost use Rattle.std.specs.Prelude.{[], ◌≡◌};
 ghost use Rattle.net.specs.Checks.{first, verdict_number};
 ghost use Rattle.session.specs.Commands.{record_checks};

@@ -1,5 +1,7 @@
 // Reading standard input as far as the output looks at it: two bytes, the sheet that they name, and behind an accepted sheet
 // the commands. So a refused sheet is answered when it has been read, and the end of the input is asked for once.
+#![tactic(auto)]
+
 ghost use Rattle.std.specs.Prelude.{◌≡◌, true, false, ◌≤◌, ◌-◌, length, take};
 ghost use Rattle.output.specs.Input.{looked_at, max_input};
 
@@ -9,7 +11,7 @@ use sheet::check_sheet;
 
 // How many bytes are there; whether they are all that were asked for; whether a read failed. Where neither holds, the input
 // has ended.
-#[derive(Drop)]
+#[derive(Clone, Copy)]
 pub struct Got {
     pub n: usize,
     pub full: bool,
@@ -17,7 +19,7 @@ pub struct Got {
 }
 
 // One read: how many bytes it gave, 0 at the end of the input, and whether it failed.
-#[derive(Drop)]
+#[derive(Clone, Copy)]
 struct Part {
     n: usize,
     failed: bool,

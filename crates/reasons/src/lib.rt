@@ -1,5 +1,7 @@
 // Why a command was refused (document 01, refusals 13 to 16 and 20): the number of the first entry, coupling, firing or base
 // that holds the condition; how many there are where none does. That what is named holds it: proofs/Named and proofs/Built.
+#![tactic(auto)]
+
 ghost use Rattle.std.specs.Prelude.{◌≡◌, List, ℕ, ◌<◌, ◌≤◌};
 ghost use Rattle.net.specs.Firing.{bonds_seen};
 ghost use Rattle.net.specs.Limits.{max_bases, max_bonds, max_live};

@@ -1,5 +1,7 @@
 // Live firings run forward alone from a sheet's start (document 01, commands, record, tally: when a record is sound): whether each is accepted
 // with the bases that it moved, and whether they end in the marking that is lent.
+#![tactic(auto)]
+
 ghost use Rattle.std.specs.Prelude.{◌≡◌, true, ◌&&◌, ℕ, ◌^◌, ◌<◌, ◌≤◌, get_or};
 ghost use Rattle.net.specs.Limits.{max_live, max_bonds};
 ghost use Rattle.net.specs.Checks.{clear};
@@ -25,7 +27,7 @@ use net::{Base, MAX_BASES, MAX_BONDS, MAX_LIVE, Place};
 use steps::{enable_refusal, fire_in};
 
 // Whether firings were accepted in a forward run, and how many bonds there are then.
-#[derive(Drop)]
+#[derive(Clone, Copy)]
 struct Replayed {
     pub accepted: bool,
     pub count: usize,

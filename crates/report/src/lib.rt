@@ -1,5 +1,7 @@
 // The answer line of the exam program, into a lent buffer: the command's number, what became of it, and its serial or its
 // refusal's number (01, the exam program).
+#![tactic(auto)]
+
 ghost use Rattle.std.specs.Prelude.{◌≡◌, ◌+◌, ◌≤◌, ◌<◌, ◌*◌, length};
 ghost use Rattle.text.specs.Writes.{Wrote, Filled};
 ghost use Rattle.report.specs.Lines.{word_text, answer_line, LowValue, min_line, written_of, buffer_of};
@@ -13,7 +15,7 @@ use text::{put_digits, put_word};
 const MIN_LINE: usize = 24;
 
 // The refusal's number, or 0 and how many bytes the line has.
-#[derive(Drop)]
+#[derive(Clone, Copy)]
 pub struct Written {
     pub refusal: u8,
     pub length: usize,

@@ -1,5 +1,7 @@
 // Commands on what a record holds: one command, and a whole list of them given as bytes, on a sound record and an accepted sheet.
 // What is held is copied into arrays once, which each command changes in place, and is put together once at the end.
+#![tactic(auto)]
+
 ghost use Rattle.std.specs.Prelude.{◌≡◌, ◌≤◌, length};
 ghost use Rattle.net.specs.Journal.{act};
 ghost use Rattle.format.specs.Parts.{bases_of};
@@ -22,7 +24,7 @@ use performing::perform_in;
 use tally::{Tally, counted};
 
 // What a record holds: a marking, the live firings, for each base its last mover, and the highest key given.
-#[derive(Drop)]
+#[derive(Clone, Copy)]
 pub struct Held {
     pub marking: Marking,
     pub firings: Firings,
@@ -31,7 +33,7 @@ pub struct Held {
 }
 
 // What one command gives: the answer, the key (0 where it is refused), and what is held then.
-#[derive(Drop)]
+#[derive(Clone, Copy)]
 pub struct Performed {
     pub answer: Answer,
     pub key: Key,
@@ -40,7 +42,7 @@ pub struct Performed {
 
 // What one command of a list came to: the tally after it, its answer as a word and a value, how many bonds and live firings there
 // are, and the highest key given.
-#[derive(Drop)]
+#[derive(Clone, Copy)]
 struct Stepped {
     pub tally: Tally,
     pub word: u8,
@@ -51,7 +53,7 @@ struct Stepped {
 }
 
 // What is held, and the tally, after a list of commands.
-#[derive(Drop)]
+#[derive(Clone, Copy)]
 pub struct Ran {
     pub held: Held,
     pub tally: Tally,

@@ -1,5 +1,7 @@
 // Document 01's sheets A and B as bytes, for the programs of cases: those of the definitions (sheet/specs/Samples).
 // The contracts give the lengths too, which lending the array as a slice needs.
+#![tactic(auto)]
+
 ghost use Rattle.std.specs.Prelude.{◌≡◌, length};
 ghost use Rattle.sheet.specs.Samples.{sheet_a, sheet_b};
 

@@ -26,7 +26,7 @@ const ANY: u8 = 255;
 
 // What stands at a position of a line: a part that was not named yet, its place, and where they end. Or the line is over there, or
 // neither.
-#[derive(Drop)]
+#[derive(Clone, Copy)]
 struct Wanted {
     more: bool,
     over: bool,
@@ -60,7 +60,7 @@ fn wanted_at(line: &[u8], at: usize, named: &[u8]) -> Wanted {
 }
 
 // A layout that was read: whether all of the line was, and how many parts the layout is of.
-#[derive(Drop)]
+#[derive(Clone, Copy)]
 struct Layout {
     fine: bool,
     n: usize,

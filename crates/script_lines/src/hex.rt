@@ -5,14 +5,14 @@ use lexing::{Class, end_of};
 use wording::put::put;
 
 // What stands at a position of a line.
-#[derive(Drop)]
+#[derive(Clone, Copy)]
 pub enum Digits {
     Byte(u8),
     End,
     Wrong,
 }
 
-#[derive(Drop)]
+#[derive(Clone, Copy)]
 pub struct Pair {
     pub digits: Digits,
     pub to: usize,
@@ -94,7 +94,7 @@ fn hex_at(line: &[u8], at: usize) -> Pair {
 }
 
 // What was read: whether all of it was bytes, and where the buffer's bytes end.
-#[derive(Drop)]
+#[derive(Clone, Copy)]
 pub struct Taken {
     pub fine: bool,
     pub n: usize,

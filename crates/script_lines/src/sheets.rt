@@ -28,7 +28,7 @@ const SMALLER: u8 = 7;
 pub const NO_SHEET: u8 = 8;
 
 // A sheet of n bytes in the buffer; or what was expected, and at which line: 0 where it is about the whole.
-#[derive(Drop)]
+#[derive(Clone, Copy)]
 pub struct Given {
     pub fine: bool,
     pub slip: u8,

@@ -24,7 +24,7 @@ const SESSION: u8 = 2;
 
 const BEHIND: u8 = 3;
 
-#[derive(Drop)]
+#[derive(Clone, Copy)]
 struct Place {
     stage: u8,
     line: usize,

@@ -10,7 +10,7 @@ use net::Verdict;
 use tally::Tally;
 
 // The answer, how many answers the lists have (0 where the block is not run), and the record after the block.
-#[derive(Drop)]
+#[derive(Clone, Copy)]
 pub struct BlockOutcome {
     pub answer: Verdict,
     pub count: usize,
@@ -18,7 +18,7 @@ pub struct BlockOutcome {
 }
 
 // An outcome of a block, and the tally after it.
-#[derive(Drop)]
+#[derive(Clone, Copy)]
 pub struct BlockCounted {
     pub outcome: BlockOutcome,
     pub tally: Tally,

@@ -1,5 +1,7 @@
 // Commands on the session record (document 01, commands, record, tally): the record goes in by value and comes out.
 // A customer's command checks sheet and record first; `run` asks for a sound record.
+#![tactic(auto)]
+
 pub mod block;
 pub mod run;
 
@@ -19,7 +21,7 @@ use tally::Tally;
 
 // The session record: a marking, the live firings in strictly ascending keys, for each base the key of the last live firing that
 // moved it (0 where none did), and the highest key ever given. Unused entries hold 0.
-#[derive(Drop)]
+#[derive(Clone, Copy)]
 pub struct Record {
     pub marking: Marking,
     pub firings: Firings,
@@ -28,21 +30,21 @@ pub struct Record {
 }
 
 // The answer, the key of the firing (0 where the command is refused), and the record after the command.
-#[derive(Drop)]
+#[derive(Clone, Copy)]
 pub struct Outcome {
     pub answer: Answer,
     pub key: Key,
     pub session: Record,
 }
 
-#[derive(Drop)]
+#[derive(Clone, Copy)]
 pub struct Start {
     pub answer: Verdict,
     pub session: Record,
 }
 
 // An outcome, and the tally after it.
-#[derive(Drop)]
+#[derive(Clone, Copy)]
 pub struct Counted {
     pub outcome: Outcome,
     pub tally: Tally,

@@ -10,7 +10,7 @@ use runs::run_on;
 use tally::Tally;
 
 // The record and the tally after a list of commands.
-#[derive(Drop)]
+#[derive(Clone, Copy)]
 pub struct Ran {
     pub session: Record,
     pub tally: Tally,

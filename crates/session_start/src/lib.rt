@@ -1,5 +1,7 @@
 // Starting a session on a sheet (document 01, the session book; the turned-away list): the fresh record, or a record of
 // zeros with the sheet's refusal. Any bytes may be handed in.
+#![tactic(auto)]
+
 ghost use Rattle.std.specs.Prelude.{◌≡◌, []};
 ghost use Rattle.net.specs.Checks.{first, verdict_number};
 ghost use Rattle.sheet.specs.Checks.{sheet_checks};

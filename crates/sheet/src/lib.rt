@@ -1,5 +1,7 @@
 // Which sheets are accepted (document 01, the turned-away list, 1 to 9): the checks in order, the first that holds answered.
 // The conditions themselves are the crates sheet_head's (1 to 6), sheet_arcs's (7, 8) and sheet_bonds's (9).
+#![tactic(auto)]
+
 ghost use Rattle.std.specs.Prelude.{◌≡◌, ◌+◌, ◌<◌};
 ghost use Rattle.net.specs.Checks.{first, verdict_number};
 ghost use Rattle.format.specs.Parts.{transitions_of};

@@ -1,5 +1,7 @@
 // A sheet printed as text and read again, in one call: for every accepted sheet that gives its own bytes. specs/Again says
 // what comes of any bytes.
+#![tactic(auto)]
+
 ghost use Rattle.std.specs.Prelude.{◌≡◌, ◌≤◌, length};
 ghost use Rattle.std.proofs.lemmas.List.Edits.{sets};
 ghost use Rattle.sheet_print.specs.Room.{text_room};
@@ -10,7 +12,7 @@ use sheet_draft::{Made, read_sheet};
 use sheet_print::{Printed, print_sheet};
 
 // What came of it: what was read from the text, or the number of document 01's list for a sheet that is refused.
-#[derive(Drop)]
+#[derive(Clone, Copy)]
 pub enum Again {
     Read(Made),
     Refused(u8),

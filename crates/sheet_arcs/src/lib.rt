@@ -1,5 +1,7 @@
 // The conditions under which a sheet is turned away for a transition's length and entries (document 01, 7 and 8), on that
 // transition's bytes: a function for each, true where the sheet is refused. Total: each reads any bytes.
+#![tactic(auto)]
+
 ghost use Rattle.std.specs.Prelude.{◌≡◌, ◌+◌, ◌<◌, ltb};
 ghost use Rattle.net.specs.Tests.{all};
 ghost use Rattle.net.specs.Sorted.{ascends};

@@ -1,5 +1,7 @@
 // The condition under which a sheet is turned away for a transition's couplings (document 01, 9), on that transition's bytes:
 // true where the sheet is refused. Total: it reads any bytes. `out` is a side of the transition (specs/Sides).
+#![tactic(auto)]
+
 ghost use Rattle.std.specs.Prelude.{◌≡◌, ◌&&◌, ◌+◌, ◌<◌, eqb};
 ghost use Rattle.net.specs.Tests.{all, any};
 ghost use Rattle.net.specs.Sorted.{ascends};

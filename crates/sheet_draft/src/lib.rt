@@ -1,5 +1,7 @@
 // The bytes of a sheet from its text (01, the sheet): the lines' acts into a lent array, the bytes of the acts into a lent
 // buffer. specs/Made says what is made of a text.
+#![tactic(auto)]
+
 ghost use Rattle.std.specs.Prelude.{◌≡◌, length, ◌≤◌};
 ghost use Rattle.std.proofs.lemmas.List.Edits.{sets};
 ghost use Rattle.sheet_text.specs.Reading.{read_text};
@@ -17,7 +19,7 @@ mod notes;
 const MAX_ACTS: usize = 65536;
 
 // What a line comes to: its act and how many that is, how many bytes it adds, the places and steps behind it.
-#[derive(Drop)]
+#[derive(Clone, Copy)]
 pub struct Note {
     pub act: u64,
     pub acts: usize,
@@ -27,7 +29,7 @@ pub struct Note {
 }
 
 // What a text comes to: whether the sheet's bytes are not too many, and then how many acts, places, steps and bytes.
-#[derive(Drop)]
+#[derive(Clone, Copy)]
 pub struct Noted {
     pub fits: bool,
     pub acts: usize,
@@ -38,7 +40,7 @@ pub struct Noted {
 
 // What was made of a text: the sheet, of so many bytes; or the number of the first line that cannot stand where it does and
 // what it is; or the net is more than the format holds.
-#[derive(Drop)]
+#[derive(Clone, Copy)]
 pub enum Made {
     Sheet(usize),
     Mistake(usize, Line),

@@ -1,5 +1,7 @@
 // The conditions under which a sheet is turned away before its transitions are looked at (document 01, 1 to 6): a function
 // for each, true where the sheet is refused. Total: each reads any bytes.
+#![tactic(auto)]
+
 ghost use Rattle.std.specs.Prelude.{◌≡◌, ◌+◌, ◌*◌, ◌<◌, ltb};
 ghost use Rattle.net.specs.Tests.{all};
 ghost use Rattle.net.specs.Sorted.{ascends};

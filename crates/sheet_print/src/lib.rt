@@ -1,5 +1,7 @@
 // A sheet printed as text into a lent buffer: the lines of sheet_text's Reading, or the sheet's refusal. Each writer answers
 // where its text ends, and its contract says all of the buffer (`Wrote`).
+#![tactic(auto)]
+
 ghost use Rattle.std.specs.Prelude.{◌≡◌, ◌+◌, ◌*◌, ◌≤◌, length};
 ghost use Rattle.std.proofs.lemmas.List.Edits.{sets};
 ghost use Rattle.text.specs.Writes.{Wrote, Filled};
@@ -24,7 +26,7 @@ use sheet::check_sheet;
 use text::{put_digits, put_word};
 
 // What printing a sheet answers: how many bytes of text it wrote, or the number of document 01's list.
-#[derive(Drop)]
+#[derive(Clone, Copy)]
 pub enum Printed {
     Text(usize),
     Refused(u8),

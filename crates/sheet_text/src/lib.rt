@@ -1,5 +1,7 @@
 // A sheet as text: its lines, and the first that cannot stand where it does. specs/Lines has the words, specs/Reading the net
 // that the lines say.
+#![tactic(auto)]
+
 ghost use Rattle.std.specs.Prelude.{◌≡◌, not, ◌&&◌, ◌<◌, ◌≤◌, eqb, length, drop};
 ghost use Rattle.std.proofs.Math.Seq.{slice};
 ghost use Rattle.lexing.specs.Tokens.{row};
@@ -11,7 +13,7 @@ use forms::{has_form, nth_number};
 use lexing::{Class, end_of};
 
 // A line of a sheet's text. `Wrong` has no form.
-#[derive(Drop)]
+#[derive(Clone, Copy)]
 pub enum Line {
     Blank,
     Places(u32),
@@ -78,14 +80,14 @@ pub fn line_of(text: &[u8], at: usize) -> Line
 }
 
 // The first line that cannot stand where it does: its number, from 1, and what it is. 0 and `Blank`: there is none.
-#[derive(Drop)]
+#[derive(Clone, Copy)]
 pub struct Mistake {
     pub line: usize,
     pub what: Line,
 }
 
 // What was read: whether `places` was given, and how many parts and steps.
-#[derive(Drop)]
+#[derive(Clone, Copy)]
 pub struct Counts {
     pub told: bool,
     pub parts: usize,

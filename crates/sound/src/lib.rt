@@ -1,6 +1,8 @@
 // Whether what a record holds is sound for a sheet (document 01, commands, record, tally; refusal 10): it has the form,
 // its keys ascend, and its firings, run forward alone from the start, are accepted and end in its marking; the highest key given is
 // no lower than any of them (document 02, T-03), and the table of last movers is theirs (T-06).
+#![tactic(auto)]
+
 ghost use Rattle.std.specs.Prelude.{◌≡◌, true, [], ◌<◌};
 ghost use Rattle.net.specs.Checks.{clear, first};
 ghost use Rattle.format.specs.Parts.{bases_of};

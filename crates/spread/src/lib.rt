@@ -1,5 +1,7 @@
 // How far one firing spreads (document 02, T-08), from the arrays that hold the live firings.
 // The session's call checks the sheet and the record first.
+#![tactic(auto)]
+
 ghost use Rattle.std.specs.Prelude.{◌≡◌, true, List, ℕ, ◌<◌, ◌≤◌};
 ghost use Rattle.net.specs.Limits.{max_bases, max_live};
 ghost use Rattle.net.specs.Tests.{pick};
@@ -16,7 +18,7 @@ use net::{Key, MAX_BASES, MAX_LIVE, Verdict};
 use words::{has_base, shares, union};
 
 // The answer, and a flag for each part: whether it was moved by the firing or by one that depends on it. Unused flags are no.
-#[derive(Drop)]
+#[derive(Clone, Copy)]
 pub struct Spread {
     pub answer: Verdict,
     pub parts: [bool; MAX_BASES],

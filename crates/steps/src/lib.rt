@@ -1,5 +1,7 @@
 // A transition of an accepted sheet on a good marking that lies in lent arrays, beside labels by its bonds: whether it is
 // enabled, firing and taking back in place. The transition's bytes are found in the sheet and read there.
+#![tactic(auto)]
+
 ghost use Rattle.std.specs.Prelude.{◌≡◌, ◌<◌};
 ghost use Rattle.net.specs.Limits.{max_bases};
 ghost use Rattle.net.specs.Checks.{first};
@@ -21,7 +23,7 @@ use groups::moved_word;
 use net::{Base, MAX_BASES, MAX_BONDS, Place, Transition};
 
 // What firing answers: the number of bonds after it, and the set of the moved bases.
-#[derive(Drop)]
+#[derive(Clone, Copy)]
 pub struct Fired {
     pub count: usize,
     pub moved: u64,

@@ -1,9 +1,11 @@
 // The tally that the rig lends (document 01, commands, record, tally): three counts, each of which stays at 65,535.
 // One thin function adds to a lent tally, over a function by value.
+#![tactic(auto)]
+
 ghost use Rattle.std.specs.Prelude.{◌≡◌};
 ghost use Rattle.tally.specs.Counts.{one_more, counted_of};
 
-#[derive(Drop)]
+#[derive(Clone, Copy)]
 pub struct Tally {
     pub fired: u16,
     pub undone: u16,

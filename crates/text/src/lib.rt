@@ -1,5 +1,7 @@
 // Text into a lent buffer: decimal numbers and words, from a given position on. Every contract says all of the buffer
 // (`Wrote`) and answers where the text ends.
+#![tactic(auto)]
+
 ghost use Rattle.std.specs.Prelude.{◌≡◌, ◌+◌, ◌≤◌, length};
 ghost use Rattle.text.specs.Decimal.{digits};
 ghost use Rattle.text.specs.Writes.{Wrote};

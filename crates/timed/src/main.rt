@@ -4,6 +4,8 @@
 // `way`: as one block, and then ten times the way back to the start places; `listing`: as one block, and then ten times the listing.
 // What stdout has was printed by the plain Rust program there, once for each of the first three words. For `way` it is ten times the
 // sum of the live keys, since all have to go, and for `listing` ten times the sum of the live firings' steps.
+#![tactic(auto)]
+
 mod blocks;
 mod lists;
 mod singly;

@@ -1,5 +1,7 @@
 // The live firing at a place taken back, in place on the lent arrays of a record that is sound for an accepted sheet.
 // Whether another was built on it is not looked at: callers have seen that none was, or ask what would be held.
+#![tactic(auto)]
+
 ghost use Rattle.std.specs.Prelude.{◌-◌, ◌<◌};
 ghost use Rattle.net.specs.declared.Key.{Key};
 ghost use Rattle.bonds.specs.Ends.{bonds_in};

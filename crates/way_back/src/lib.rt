@@ -1,5 +1,7 @@
 // The way back to a wanted layout (document 02, T-04): the smallest set of live firings to take back.
 // On a copy of what the record holds one firing after another is taken back; those that went are the set.
+#![tactic(auto)]
+
 ghost use Rattle.std.specs.Prelude.{◌≡◌, true, List, ℕ, ◌<◌, ◌≤◌, length};
 ghost use Rattle.net.specs.Limits.{max_live};
 ghost use Rattle.net.specs.Tests.{pick};
@@ -28,7 +30,7 @@ use net::{Base, Key, MAX_BASES, MAX_BONDS, MAX_LIVE, Place, Verdict};
 use undoing::undo_at;
 
 // The answer, how many firings are to be taken back, and their keys in descending order. Unused entries hold 0.
-#[derive(Drop)]
+#[derive(Clone, Copy)]
 pub struct WayBack {
     pub answer: Verdict,
     pub count: usize,
@@ -103,7 +105,7 @@ fn gone_keys<'a>(
 }
 
 // What a turn leaves: how many bonds and live firings there are, and how many turns there may still be.
-#[derive(Drop)]
+#[derive(Clone, Copy)]
 struct Turned {
     pub count: usize,
     pub live: usize,

@@ -1,5 +1,7 @@
 // Why a command is refused (document 01, the turned-away list), as one call that asks nothing of its caller: the reason, with
 // what it is about. The customer's own call says the number; reasons finds the first entry, coupling or firing.
+#![tactic(auto)]
+
 ghost use Rattle.std.specs.Prelude.{◌≡◌};
 ghost use Rattle.net.specs.Checks.{first};
 ghost use Rattle.net.specs.Journal.{checks, key_named, transition_named};
@@ -25,7 +27,7 @@ use session::{Record, command_with};
 use tally::Tally;
 
 // The reason, by the number of document 01's list; what a variant holds is what the number is about.
-#[derive(Drop)]
+#[derive(Clone, Copy)]
 pub enum Reason {
     Nothing, // the command would not be refused
     Sheet, // 1 to 9

@@ -92,7 +92,7 @@ pub fn put_live(buf: &mut [u8], f: Firings) -> usize {
 }
 
 // A live firing by its serial: whether it is live, its step, and its moved parts.
-#[derive(Drop)]
+#[derive(Clone, Copy)]
 struct Found {
     live: bool,
     step: u8,

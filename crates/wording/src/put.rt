@@ -82,7 +82,7 @@ fn put_phrase(buf: &mut [u8], words: &[u8], a: usize, b: usize, c: usize, d: usi
 }
 
 // What is said: a phrase by its line in a table of them, from 0, and its numbers.
-#[derive(Drop)]
+#[derive(Clone, Copy)]
 pub struct Said {
     pub line: usize,
     pub a: usize,

@@ -10,7 +10,7 @@ use net::{Bond, Entry, Transition};
 use sheet::transition_refusal;
 
 // The first pair whose offset is not where the one before ends; how many pairs there are where none is.
-#[derive(Drop)]
+#[derive(Clone, Copy)]
 struct Seam {
     pair: u16,
     is: usize,

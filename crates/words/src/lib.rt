@@ -1,5 +1,7 @@
 // Sets of bases as machine words, the lowest bit for base 0.
 // One word holds a set while there are no more bases than its bits.
+#![tactic(auto)]
+
 ghost use Rattle.std.specs.Prelude.{◌≡◌, ◌+◌, ◌^◌, ◌<◌, ◌≤◌, get_or, set, true, false};
 ghost use Rattle.net.specs.Limits.{max_bases};
 ghost use Rattle.net.specs.Journal.{common};
