@@ -1,0 +1,18 @@
+use borrow.Author.Rules.{rules}
+use native.Mathlib.Omega.{arith}
+use mathlib.Core.Path.{◌≡◌, refl}
+use Prim.Native.Nat.{◌-◌, ◌≤◌}
+use mathlib.Core.Bool.{◌&&◌}
+use lib.ListN.{get_or, drop}
+use Rattle.net.specs.Limits.{max_live}
+use Rattle.firings.specs.Search.{keys_in}
+use Rattle.firings.specs.Form.{climbs}
+use Rattle.firings.proofs.Loops.{climb-turn, climb-end}
+use Rattle.firings.proofs.keys_climb.Given as goal
+
+abbrev pub invariant-loop-i : goal.invariant-loop-i
+invariant-loop-i l =
+    (l.i ≤ l.live) × (l.live ≤ max_live) × (climbs 0 (keys_in l.live l.keys) ≡ (l.ok && climbs l.last (drop l.i (keys_in l.live l.keys))))
+
+abbrev pub decreases-loop-i : goal.decreases-loop-i
+decreases-loop-i l = l.live - l.i

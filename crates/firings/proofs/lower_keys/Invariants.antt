@@ -1,0 +1,18 @@
+use borrow.Author.Rules.{rules}
+use native.Mathlib.Omega.{arith}
+use mathlib.Core.Path.{◌≡◌, refl, sym, ap, ◌∙◌}
+use Prim.Native.Nat.{ℕ, ◌-◌, ◌≤◌}
+use lib.Dec.{ltb}
+use lib.ListN.{get_or}
+use Rattle.net.specs.Limits.{max_live}
+use Rattle.net.specs.Tests.{count}
+use Rattle.bonds.proofs.Fill.{count-more}
+use Rattle.firings.specs.Search.{keys_in}
+use Rattle.firings.proofs.lower_keys.Given as goal
+
+abbrev pub invariant-loop-i : goal.invariant-loop-i
+invariant-loop-i l =
+    (l.i ≤ l.live) × (l.live ≤ max_live) × (l.n ≤ l.i) × (l.n ≡ count (λ x. ltb x l.key) (keys_in l.i l.keys))
+
+abbrev pub decreases-loop-i : goal.decreases-loop-i
+decreases-loop-i l = l.live - l.i

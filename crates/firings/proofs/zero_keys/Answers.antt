@@ -1,0 +1,20 @@
+use borrow.Author.Rules.{rules}
+use mathlib.Core.Path.{◌≡◌, refl, sym, ◌∙◌}
+use Prim.Native.Nat.{ℕ, ◌-◌}
+use mathlib.Core.Bool.{◌&&◌}
+use lib.Dec.{eqb}
+use lib.ListN.{length}
+use Rattle.marking.specs.Form.{zero_from}
+use Rattle.marking_form.proofs.Zeros.{rest-turn, rest_end}
+use Rattle.firings.proofs.zero_keys.Goals as goal
+
+pub loop-i-init : goal.loop-i-init
+loop-i-init c = refl
+
+pub loop-i-preserved : goal.loop-i-preserved
+loop-i-preserved c =
+    c.loop-i.invariant
+    ∙ rest-turn (λ (x : ℕ). eqb x 0) c.args.a.now c.loop-i.i 0 c.loop-i.zero c.loop-i-test.true
+
+pub returns : goal.returns
+returns c = sym (c.loop-i.invariant ∙ rest_end (λ (x : ℕ). eqb x 0) c.args.a.now c.loop-i.i c.loop-i.zero c.loop-i-test.false)

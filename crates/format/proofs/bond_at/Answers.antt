@@ -1,0 +1,5 @@
+use borrow.Author.Rules.{rules}
+use Rattle.format.proofs.bond_at.Goals as goal
+
+pub returns : goal.returns
+returns c = rw (c.base_at-lo.ensures, c.base_at-hi.ensures)

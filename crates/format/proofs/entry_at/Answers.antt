@@ -1,0 +1,5 @@
+use borrow.Author.Rules.{rules}
+use Rattle.format.proofs.entry_at.Goals as goal
+
+pub returns : goal.returns
+returns c = rw (c.base_at-base.ensures, c.byte_at-from.ensures, c.byte_at-to.ensures)

@@ -1,0 +1,6 @@
+use mathlib.Core.Path.{◌∙◌}
+use borrow.Author.Rules.{rules}
+use Rattle.format.proofs.in_count.Goals as goal
+
+pub returns : goal.returns
+returns c = c.byte_at.ensures ∙ rw c.in_at-at.ensures.value

@@ -1,0 +1,6 @@
+use mathlib.Core.Path.{◌∙◌}
+use borrow.Author.Rules.{rules}
+use Rattle.format.proofs.out_bond.Goals as goal
+
+pub returns : goal.returns
+returns c = c.bond_at.ensures ∙ rw c.out_at-at.ensures.value

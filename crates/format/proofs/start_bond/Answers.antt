@@ -1,0 +1,6 @@
+use mathlib.Core.Path.{◌∙◌}
+use borrow.Author.Rules.{rules}
+use Rattle.format.proofs.start_bond.Goals as goal
+
+pub returns : goal.returns
+returns c = c.bond_at.ensures ∙ rw c.start_bonds-bonds.ensures.result_value

@@ -1,0 +1,5 @@
+use borrow.Author.Rules.{rules}
+use Rattle.format.proofs.start_bond_count.Goals as goal
+
+pub returns : goal.returns
+returns c = rw c.start_bonds-bonds.ensures.result_value

@@ -1,0 +1,19 @@
+use mathlib.Core.Path.{◌≡◌, refl, ap, ◌∙◌}
+use mathlib.Core.List.{◌++◌}
+use Prim.Native.Nat.{◌-◌, ◌≤◌}
+use native.Mathlib.Omega.{arith}
+use lib.ListN.{replicate, length, get_or, drop}
+use borrow.Author.Rules.{rules}
+use Rattle.net.specs.Limits.{max_bases}
+use Rattle.net.proofs.Tables.{table-list}
+use Rattle.net.specs.Tests.{table}
+use Rattle.bonds.proofs.Fill.{fill-turn}
+use Rattle.marking.proofs.Padding.{fill-padded}
+use Rattle.marking.specs.Form.{padded}
+use Rattle.fresh_marking.proofs.placed.Given as goal
+
+abbrev pub invariant-loop-i : goal.invariant-loop-i
+invariant-loop-i l = (l.i ≤ length l.s) × (l.initial.places ≡ replicate max_bases 0) × (length l.initial.places ≡ max_bases) × (l.places ≡ table l.i (λ j. get_or l.s j 0) ++ drop l.i l.initial.places)
+
+abbrev pub decreases-loop-i : goal.decreases-loop-i
+decreases-loop-i l = length l.s - l.i

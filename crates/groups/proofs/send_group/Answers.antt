@@ -1,0 +1,31 @@
+use mathlib.Core.Path.{◌≡◌, refl, ap, ◌∙◌}
+use mathlib.Core.List.{List, ◌++◌}
+use Prim.Native.Nat.{ℕ, ◌-◌, ◌≤◌}
+use native.Mathlib.Omega.{arith}
+use lib.ListN.{length, get_or, drop}
+use lib.Dec.{eqb}
+use borrow.Author.Rules.{rules}
+use Rattle.net.specs.Limits.{max_bases}
+use Rattle.net.specs.Tests.{pick, table}
+use Rattle.bonds.proofs.Fill.{fill-turn, fill_end}
+use Rattle.bonds.proofs.InPlace.{read-ahead}
+use Rattle.labels.specs.Labelled.{label_in}
+use Rattle.groups.proofs.send_group.Goals as goal
+
+pub loop-p-init : goal.loop-p-init
+loop-p-init c = (search rules, c.requires, refl)
+
+pub loop-p-preserved : goal.loop-p-preserved
+loop-p-preserved c =
+    let l : List ℕ = c.args.places.now in
+    let g : ℕ → ℕ = λ q. pick (eqb c.args.x (label_in c.args.l.now q)) c.args.to (get_or l q 0) in
+    let p = c.loop-p.p in
+    let old = read-ahead g p p l c.loop-p.places 0 (omega arith) c.loop-p.invariant.2 in
+    let v = c.chosen.ensures ∙ ap (λ (o : ℕ). pick (eqb c.args.x (label_in c.args.l.now p)) c.args.to o) old in
+    (search rules, search rules, fill-turn g p l c.loop-p.places 0 c.chosen.result (omega arith) v c.loop-p.invariant.2)
+
+pub returns : goal.returns
+returns c =
+    let l : List ℕ = c.args.places.now in
+    fill_end (λ q. pick (eqb c.args.x (label_in c.args.l.now q)) c.args.to (get_or l q 0)) c.loop-p.p max_bases l
+    c.loop-p.places c.loop-p.invariant.1 (omega arith) c.loop-p.invariant.2

@@ -1,0 +1,20 @@
+use mathlib.Core.Path.{◌≡◌, refl, ap, ◌∙◌}
+use mathlib.Core.List.{List, ◌++◌}
+use Prim.Native.Nat.{ℕ, ◌-◌, ◌≤◌}
+use native.Mathlib.Omega.{arith}
+use lib.ListN.{length, get_or, drop}
+use lib.Dec.{eqb}
+use borrow.Author.Rules.{rules}
+use Rattle.net.specs.Limits.{max_bases}
+use Rattle.net.specs.Tests.{pick, table}
+use Rattle.bonds.proofs.Fill.{fill-turn, fill_end}
+use Rattle.bonds.proofs.InPlace.{read-ahead}
+use Rattle.labels.specs.Labelled.{label_in}
+use Rattle.groups.proofs.send_group.Given as goal
+
+abbrev pub invariant-loop-p : goal.invariant-loop-p
+invariant-loop-p l =
+    (l.p ≤ max_bases) × (length l.initial.places ≡ max_bases) × (l.places ≡ table l.p (λ q. pick (eqb l.x (label_in l.l q)) l.to (get_or l.initial.places q 0)) ++ drop l.p l.initial.places)
+
+abbrev pub decreases-loop-p : goal.decreases-loop-p
+decreases-loop-p l = max_bases - l.p

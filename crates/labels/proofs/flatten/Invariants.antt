@@ -1,0 +1,18 @@
+use mathlib.Core.Path.{◌≡◌, refl, ◌∙◌}
+use mathlib.Core.List.{List, ◌++◌}
+use Prim.Native.Nat.{ℕ, ◌-◌, ◌<◌, ◌≤◌}
+use native.Mathlib.Omega.{arith}
+use lib.ListN.{length, get_or, drop, length-set}
+use borrow.Author.Rules.{rules}
+use Rattle.net.specs.Limits.{max_bases}
+use Rattle.net.specs.Tests.{table}
+use Rattle.bonds.proofs.Fill.{fill-turn, fill_end}
+use Rattle.labels.specs.Forest.{Down, Forest}
+use Rattle.labels.proofs.Trees.{spans-down-kept, flat-turn, flat-parted}
+use Rattle.labels.proofs.flatten.Given as goal
+
+abbrev pub invariant-loop-p : goal.invariant-loop-p
+invariant-loop-p l = (l.p ≤ max_bases) × (length l.initial.l ≡ max_bases) × Down max_bases l.l × ((f : ℕ → ℕ) → Forest max_bases l.initial.l f → l.l ≡ table l.p f ++ drop l.p l.initial.l) × (length l.l ≡ max_bases)
+
+abbrev pub decreases-loop-p : goal.decreases-loop-p
+decreases-loop-p l = max_bases - l.p

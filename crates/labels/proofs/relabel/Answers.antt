@@ -1,0 +1,5 @@
+use borrow.Author.Rules.{rules}
+use Rattle.labels.proofs.relabel.Goals as goal
+
+pub returns : goal.returns
+returns c = c.flatten.ensures _ c.unite_all.ensures

@@ -1,0 +1,18 @@
+use mathlib.Core.Path.{◌≡◌, refl, ap, ◌∙◌}
+use mathlib.Core.List.{List, ◌++◌}
+use Prim.Native.Nat.{ℕ, ◌-◌, ◌≤◌}
+use native.Mathlib.Omega.{arith}
+use lib.ListN.{length, get_or, drop}
+use borrow.Author.Rules.{rules}
+use Rattle.net.specs.Limits.{max_bases}
+use Rattle.net.specs.Tests.{table}
+use Rattle.labels.specs.Labelled.{renamed}
+use Rattle.bonds.proofs.Fill.{fill-turn, fill_end}
+use Rattle.bonds.proofs.InPlace.{read-ahead}
+use Rattle.labels.proofs.rename_in.Given as goal
+
+abbrev pub invariant-loop-p : goal.invariant-loop-p
+invariant-loop-p l = (l.p ≤ max_bases) × (length l.initial.l ≡ max_bases) × (l.l ≡ table l.p (λ q. renamed l.from l.to (get_or l.initial.l q 0)) ++ drop l.p l.initial.l)
+
+abbrev pub decreases-loop-p : goal.decreases-loop-p
+decreases-loop-p l = max_bases - l.p

@@ -1,0 +1,22 @@
+-- what is known after the first i bytes
+use borrow.Author.Rules.{rules}
+use native.Mathlib.Omega.{arith}
+use mathlib.Core.Path.{◌≡◌, ap, sym, ◌∙◌}
+use mathlib.Core.Bool.{Bool, not, ◌||◌, or-false, or_assoc}
+use mathlib.Core.List.{List}
+use Prim.Native.Nat.{ℕ, ◌-◌, ◌≤◌}
+use lib.Dec.{eqb}
+use lib.ListN.{length, get_or}
+use Rattle.net.specs.Tests.{any, table}
+use Rattle.net.proofs.Tables.{any-more, table-list}
+use Rattle.layout.specs.Layout.{no_such_place}
+use Rattle.layout.proofs.unfit_layout.Given as goal
+
+abbrev pub upto : ℕ → ℕ → List ℕ → ℕ → Bool
+upto bases places w i = not (eqb (length w) bases) || any (no_such_place places) (table i (λ k. get_or w k 0))
+
+abbrev pub invariant-loop-i : goal.invariant-loop-i
+invariant-loop-i l = (l.i ≤ length l.layout) × (l.unfit ≡ upto l.bases l.places l.layout l.i)
+
+abbrev pub decreases-loop-i : goal.decreases-loop-i
+decreases-loop-i l = length l.layout - l.i

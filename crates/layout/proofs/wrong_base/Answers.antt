@@ -1,0 +1,26 @@
+use borrow.Author.Rules.{rules}
+use native.Mathlib.Omega.{arith}
+use mathlib.Core.Path.{◌≡◌, refl, sym, ◌∙◌}
+use mathlib.Core.Bool.{false}
+use Prim.Native.Nat.{◌-◌, ◌≤◌}
+use lib.ListN.{length}
+use Rattle.net.specs.Limits.{max_bases}
+use Rattle.net.specs.Tests.{any, table}
+use Rattle.net.proofs.Tables.{any-more}
+use Rattle.net.proofs.Firsts.{first-here, first-none}
+use Rattle.layout.specs.Layout.{astray}
+use Rattle.layout.proofs.wrong_base.Goals as goal
+
+pub loop-p-init : goal.loop-p-init
+loop-p-init c = (search rules, search rules, search rules, refl)
+
+pub returns-then-wrong : goal.returns-then-wrong
+returns-then-wrong c = first-here (astray c.args.layout.now c.args.places.now) c.args.n c.loop-p.p (λ k. k) c.loop-p.invariant.3 (omega arith) _ refl (sym c.is_elsewhere-wrong.ensures ∙ c.if-wrong.true)
+
+pub loop-p-preserved : goal.loop-p-preserved
+loop-p-preserved c = (search rules, search rules, search rules, any-more (astray c.args.layout.now c.args.places.now) c.loop-p.p (λ k. k) ∙ rw c.loop-p.invariant.3 (sym c.is_elsewhere-wrong.ensures ∙ c.if-wrong.false))
+
+pub returns : goal.returns
+returns c =
+    let e : c.loop-p.p ≡ c.args.n = omega arith in
+    first-none (astray c.args.layout.now c.args.places.now) c.args.n c.loop-p.p (λ k. k) e c.loop-p.invariant.3

@@ -1,0 +1,18 @@
+use borrow.Author.Rules.{rules}
+use native.Mathlib.Omega.{arith}
+use mathlib.Core.Path.{◌≡◌, refl, sym, ◌∙◌}
+use mathlib.Core.Bool.{false}
+use Prim.Native.Nat.{◌-◌, ◌≤◌}
+use lib.ListN.{length}
+use Rattle.net.specs.Limits.{max_bases}
+use Rattle.net.specs.Tests.{any, table}
+use Rattle.net.proofs.Tables.{any-more}
+use Rattle.net.proofs.Firsts.{first-here, first-none}
+use Rattle.layout.specs.Layout.{astray}
+use Rattle.layout.proofs.wrong_base.Given as goal
+
+abbrev pub invariant-loop-p : goal.invariant-loop-p
+invariant-loop-p l = (l.p ≤ l.n) × (l.n ≤ length l.layout) × (l.n ≤ max_bases) × (any (astray l.layout l.places) (table l.p (λ k. k)) ≡ false)
+
+abbrev pub decreases-loop-p : goal.decreases-loop-p
+decreases-loop-p l = l.n - l.p

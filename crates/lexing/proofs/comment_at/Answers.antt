@@ -1,0 +1,9 @@
+use Rattle.lexing.proofs.Scans.{end-stands, line-stands}
+use borrow.Author.Rules.{rules}
+use Rattle.lexing.proofs.comment_at.Goals as goal
+
+pub returns-then-text-stop : goal.returns-then-text-stop
+returns-then-text-stop c = end-stands c.args.text.now c.args.from _ c.end_of-stop.ensures c.if-text-stop.true
+
+pub returns : goal.returns
+returns c = line-stands c.args.text.now c.args.from _ c.end_of-stop.ensures c.if-text-stop.false

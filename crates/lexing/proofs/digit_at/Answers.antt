@@ -1,0 +1,10 @@
+use Rattle.lexing.proofs.Scans.{digit-none, digit-here}
+use mathlib.Core.Path.{sym, ◌∙◌}
+use borrow.Author.Rules.{rules}
+use Rattle.lexing.proofs.digit_at.Goals as goal
+
+pub returns-then-text-at : goal.returns-then-text-at
+returns-then-text-at c = sym (digit-none c.args.text.now c.args.at c.if-text-at.true)
+
+pub returns : goal.returns
+returns c = c.is_of.ensures ∙ sym (digit-here c.args.text.now c.args.at c.if-text-at.false)

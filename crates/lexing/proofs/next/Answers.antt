@@ -1,0 +1,7 @@
+use Rattle.lexing.specs.Tokens.{next_of}
+use borrow.Author.Rules.{rules}
+use Rattle.lexing.proofs.next.Goals as goal
+
+pub returns : goal.returns
+unfolding next_of
+returns c = rw (← c.end_of-from.ensures.rest) c.begun_at.ensures

@@ -1,0 +1,7 @@
+use mathlib.Core.Path.{refl}
+use Rattle.listing.specs.Listing.{no_listing}
+use Rattle.listing.proofs.list_none.Goals as goal
+
+pub returns : goal.returns
+unfolding no_listing
+returns c = refl

@@ -1,0 +1,5 @@
+use borrow.Author.Rules.{rules}
+use Rattle.live_list.proofs.list_live.Goals as goal
+
+pub returns : goal.returns
+returns c = rw c.list_of-firings.ensures

@@ -1,0 +1,7 @@
+use borrow.Author.Rules.{rules}
+use Rattle.live_list.specs.List.{not_listed}
+use Rattle.live_list.proofs.no_live.Goals as goal
+
+pub returns : goal.returns
+unfolding not_listed
+returns c = rw c.no_firing-zero.ensures

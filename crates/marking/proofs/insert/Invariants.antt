@@ -1,0 +1,19 @@
+use mathlib.Core.Path.{◌≡◌, refl, ap, sym, ◌∙◌}
+use mathlib.Core.List.{List, ◌++◌}
+use Prim.Native.Nat.{ℕ, ◌+◌, ◌-◌, ◌<◌, ◌≤◌}
+use native.Mathlib.Omega.{arith}
+use lib.ListN.{length, get_or, drop}
+use borrow.Author.Rules.{rules}
+use Rattle.net.specs.Tests.{table}
+use Rattle.bonds.proofs.Fill.{fill-turn}
+use Rattle.bonds.proofs.InPlace.{fill_start, read-ahead}
+use Rattle.marking.specs.Shift.{slot}
+use Rattle.marking.proofs.Shifts.{slot-below, slot_at, slot-above}
+use Rattle.marking.proofs.insert.Given as goal
+
+abbrev pub invariant-loop-j : goal.invariant-loop-j
+invariant-loop-j l =
+    (l.k ≤ l.j) × (l.j ≤ l.n + 1) × (l.n < length l.initial.a) × (l.held ≡ slot l.k l.x (λ i. get_or l.initial.a i 0) l.j) × (l.a ≡ table l.j (slot l.k l.x (λ i. get_or l.initial.a i 0)) ++ drop l.j l.initial.a)
+
+abbrev pub decreases-loop-j : goal.decreases-loop-j
+decreases-loop-j l = l.n + 1 - l.j

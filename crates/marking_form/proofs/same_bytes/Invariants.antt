@@ -1,0 +1,15 @@
+use mathlib.Core.Path.{◌≡◌, refl, sym, ◌∙◌}
+use Prim.Native.Nat.{◌-◌, ◌≤◌}
+use native.Mathlib.Omega.{arith}
+use borrow.Author.Rules.{rules}
+use Rattle.net.proofs.Tables.{all_more}
+use Rattle.net.specs.Tests.{all, table}
+use Rattle.marking.proofs.Sets.{self}
+use Rattle.marking_form.proofs.Same.{same_at, same-take}
+use Rattle.marking_form.proofs.same_bytes.Given as goal
+
+abbrev pub invariant-loop-i : goal.invariant-loop-i
+invariant-loop-i l = (l.i ≤ l.n) × (l.same ≡ all self (table l.i (same_at l.a l.b)))
+
+abbrev pub decreases-loop-i : goal.decreases-loop-i
+decreases-loop-i l = l.n - l.i

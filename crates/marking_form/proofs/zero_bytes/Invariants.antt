@@ -1,0 +1,15 @@
+use mathlib.Core.Path.{◌≡◌, refl, sym, ◌∙◌}
+use mathlib.Core.Bool.{◌&&◌}
+use Prim.Native.Nat.{ℕ, ◌-◌}
+use lib.ListN.{length}
+use lib.Dec.{eqb}
+use borrow.Author.Rules.{rules}
+use Rattle.marking.specs.Form.{zero_from}
+use Rattle.marking_form.proofs.Zeros.{rest-turn, rest_end}
+use Rattle.marking_form.proofs.zero_bytes.Given as goal
+
+abbrev pub invariant-loop-i : goal.invariant-loop-i
+invariant-loop-i l = zero_from l.k l.a ≡ (l.zero && zero_from l.i l.a)
+
+abbrev pub decreases-loop-i : goal.decreases-loop-i
+decreases-loop-i l = length l.a - l.i

@@ -1,0 +1,16 @@
+use borrow.Author.Rules.{rules}
+use native.Mathlib.Omega.{arith}
+use mathlib.Core.Path.{◌≡◌, subst}
+use mathlib.Core.List.{List}
+use Prim.Native.Nat.{ℕ, ◌-◌, ◌<◌, ◌≤◌}
+use Rattle.net.specs.Limits.{max_bases, max_live}
+use Rattle.net.specs.Journal.{LiveLine}
+use Rattle.firings.specs.Lines.{firing_at, as_line}
+use Rattle.movers.proofs.Tops.{Last, last_none, last_more, last-all}
+use Rattle.movers.proofs.last_mover.Given as goal
+
+abbrev pub invariant-loop-i : goal.invariant-loop-i
+invariant-loop-i l = (l.i ≤ l.live) × (l.live ≤ max_live) × (l.p < max_bases) × ((ts keys : List ℕ) → Last l.p l.live (λ j. as_line max_bases (firing_at ts keys l.moved j)) l.i l.last)
+
+abbrev pub decreases-loop-i : goal.decreases-loop-i
+decreases-loop-i l = l.live - l.i

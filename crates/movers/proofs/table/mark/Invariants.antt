@@ -1,0 +1,20 @@
+use borrow.Author.Rules.{rules}
+use native.Mathlib.Omega.{arith}
+use mathlib.Core.Path.{◌≡◌, refl, ap, sym, ◌∙◌}
+use Prim.Native.Nat.{ℕ}
+use lib.ListN.{length, set, length-set}
+use mathlib.Core.List.{List}
+use mathlib.Core.Bool.{Bool}
+use Rattle.net.specs.Limits.{max_bases}
+use Rattle.words.specs.Sets.{set_of}
+use Rattle.words.proofs.Bits.{set-size}
+use Rattle.movers.specs.Lamp.{marked}
+use Rattle.movers.proofs.Marks.{mark-none, mark-turn}
+use Rattle.movers.proofs.table.mark.Given as goal
+
+abbrev pub invariant-loop-left : goal.invariant-loop-left
+invariant-loop-left l =
+    (length l.table ≡ max_bases) × (marked max_bases (set_of max_bases l.left) l.key.0 l.table ≡ marked max_bases (set_of max_bases l.set) l.key.0 l.initial.table)
+
+abbrev pub decreases-loop-left : goal.decreases-loop-left
+decreases-loop-left l = l.left

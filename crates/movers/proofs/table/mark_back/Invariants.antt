@@ -1,0 +1,22 @@
+use borrow.Author.Rules.{rules}
+use native.Mathlib.Omega.{arith}
+use mathlib.Core.Path.{◌≡◌, refl, ap, sym, ◌∙◌}
+use Prim.Native.Nat.{ℕ, suc, ◌-◌, ◌≤◌}
+use lib.ListN.{length, get_or, set}
+use mathlib.Core.List.{List}
+use mathlib.Core.Path.{ap₂}
+use mathlib.Core.Bool.{Bool}
+use Rattle.net.specs.Limits.{max_bases, max_live}
+use Rattle.words.specs.Sets.{set_of, meet}
+use Rattle.firings.specs.Lines.{lying, firing_at, as_line, lines_in}
+use Rattle.movers.specs.Lamp.{given_back}
+use Rattle.movers.proofs.Marks.{marked-size, back-turn, back_none}
+use Rattle.movers.proofs.table.mark_back.Given as goal
+
+abbrev pub invariant-loop-i : goal.invariant-loop-i
+invariant-loop-i l =
+    (l.i ≤ l.n) × (l.n ≤ max_live) × (length l.table ≡ max_bases) ×
+    ((ts : List ℕ) → given_back max_bases (lines_in max_bases (lying l.i ts l.keys l.moved)) (set_of max_bases l.left) l.table ≡ given_back max_bases (lines_in max_bases (lying l.n ts l.keys l.moved)) (set_of max_bases l.set) l.initial.table)
+
+abbrev pub decreases-loop-i : goal.decreases-loop-i
+decreases-loop-i l = l.i

@@ -1,0 +1,17 @@
+use borrow.Author.Rules.{rules}
+use mathlib.Core.Path.{◌≡◌, refl, sym, ◌∙◌}
+use mathlib.Core.List.{List}
+use Prim.Native.Nat.{ℕ, ◌<◌, ◌≤◌}
+use Rattle.net.specs.Limits.{max_bases, max_live}
+use Rattle.words.specs.Sets.{set_of}
+use Rattle.firings.specs.Lines.{lying, firing_at, as_line, lines_in}
+use Rattle.movers.specs.Lamp.{given_back}
+use Rattle.movers.proofs.Marks.{back-passed}
+use Rattle.movers.proofs.table.pass_four.Given as goal
+
+abbrev pub invariant-loop-i : goal.invariant-loop-i
+invariant-loop-i l =
+    (0 < l.i) × (l.i ≤ l.n) × (l.n ≤ max_live) × ((ts keys table : List ℕ) → given_back max_bases (lines_in max_bases (lying l.i ts keys l.moved)) (set_of max_bases l.set) table ≡ given_back max_bases (lines_in max_bases (lying l.n ts keys l.moved)) (set_of max_bases l.set) table)
+
+abbrev pub decreases-loop-i : goal.decreases-loop-i
+decreases-loop-i l = l.i

@@ -1,0 +1,20 @@
+use borrow.Author.Rules.{rules}
+use native.Mathlib.Omega.{arith}
+use mathlib.Core.Path.{◌≡◌}
+use Prim.Native.Nat.{◌*◌, ◌+◌, ◌-◌, ◌≤◌}
+use lib.ListN.{length}
+use Rattle.net.specs.Tests.{table}
+use Rattle.page_lines.proofs.Lines.{table_filled}
+use Rattle.page_lines.specs.Page.{line_at, page_bytes, rows_in}
+use Rattle.text.proofs.Joined.{table-written}
+use Rattle.text.proofs.Writes.{Written, written_none}
+use Rattle.text.specs.Joined.{joined}
+use Rattle.page_lines.proofs.put_lines.Given as goal
+
+abbrev pub invariant-loop-i : goal.invariant-loop-i
+invariant-loop-i l =
+    (l.i ≤ 50) × (page_bytes ≤ length l.initial.buf) × (l.n ≤ length l.keys) × (l.n ≤ length l.steps) × (l.n ≤ length l.moved) × (length l.buf ≡ length l.initial.buf)
+    × (l.pos ≡ 41 * l.i) × (l.from ≤ 3276750) × Written l.initial.buf 0 (joined (table l.i (λ j. line_at (rows_in l.keys l.steps l.moved l.n) (l.from + j)))) l.pos l.buf
+
+abbrev pub decreases-loop-i : goal.decreases-loop-i
+decreases-loop-i l = 50 - l.i

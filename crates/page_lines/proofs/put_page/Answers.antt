@@ -1,0 +1,14 @@
+use borrow.Author.Rules.{rules}
+use native.Mathlib.Omega.{arith}
+use Rattle.page_lines.proofs.Lines.{page-pieces}
+use Rattle.page_lines.specs.Page.{page_lines, rows_in}
+use Rattle.text.specs.Joined.{joined}
+use Rattle.page_lines.proofs.put_page.Goals as goal
+
+pub put_last-requires : goal.put_last-requires
+put_last-requires c = omega (arith, c.put_lines-a.ensures.1)
+
+pub returns : goal.returns
+returns c =
+    page-pieces c.args.buf.now (joined (page_lines (rows_in c.args.keys.now c.args.steps.now c.args.moved.now c.args.n) c.args.number)) c.args.number
+    c.put_lines-a.ensures.0 c.put_last.ensures

@@ -1,0 +1,10 @@
+use Rattle.sheet.proofs.Order.{head-left, head-on}
+use mathlib.Core.Path.{◌∙◌}
+use borrow.Author.Rules.{rules}
+use Rattle.sheet.proofs.sheet_refusal.Goals as goal
+
+pub returns-then-head-ne0 : goal.returns-then-head-ne0
+returns-then-head-ne0 c = head-left _ _ c.head_refusal-head.ensures c.if-head-ne0.true
+
+pub returns : goal.returns
+returns c = c.transitions_refusal.ensures ∙ head-on _ _ c.head_refusal-head.ensures c.if-head-ne0.false

@@ -1,0 +1,18 @@
+use Rattle.format.proofs.Loops.{all-on, all_left, all_end}
+use Rattle.format.specs.Arcs.{entry_count, nth_entry}
+use Rattle.net.specs.Rules.{entry_rule}
+use Rattle.net.specs.Tests.{all, table}
+use mathlib.Core.Bool.{true}
+use borrow.Author.Tests.{not-true, not-false}
+use borrow.Author.Rules.{rules}
+use native.Mathlib.Omega.{arith}
+use mathlib.Core.Path.{◌≡◌, refl, sym, ◌∙◌}
+use Prim.Native.Nat.{ℕ, ◌-◌, ◌≤◌}
+use mathlib.Core.List.{List}
+use Rattle.sheet_arcs.proofs.entries_there.Given as goal
+
+abbrev pub invariant-loop-i : goal.invariant-loop-i
+invariant-loop-i l = (l.n ≡ entry_count l.b) × (l.i ≤ l.n) × (all (entry_rule l.places l.bases) (table l.i (nth_entry l.b)) ≡ true)
+
+abbrev pub decreases-loop-i : goal.decreases-loop-i
+decreases-loop-i l = l.n - l.i

@@ -1,0 +1,12 @@
+use Rattle.sheet_arcs.specs.Conditions.{wrong_width}
+use borrow.Author.Tests.{eq-eqb, ne_eqb}
+use borrow.Author.Rules.{rules}
+use Rattle.sheet_arcs.proofs.wrong_width.Goals as goal
+
+pub returns-then-b-width : goal.returns-then-b-width
+unfolding wrong_width
+returns-then-b-width c = rw (← c.arcs_width-width.ensures, ne_eqb _ _ c.if-b-width.true)
+
+pub returns : goal.returns
+unfolding wrong_width
+returns c = rw (← c.arcs_width-width.ensures, eq-eqb _ _ c.if-b-width.false, ← c.entry_count-entries.ensures, c.outside.ensures)

@@ -1,0 +1,17 @@
+use Rattle.sheet_bonds.proofs.Tests.{partner}
+use Rattle.format.proofs.Loops.{any-on, any_left, any-end}
+use Rattle.format.specs.Arcs.{entry_count, nth_entry}
+use Rattle.net.specs.Tests.{any, table}
+use mathlib.Core.Bool.{false}
+use borrow.Author.Rules.{rules}
+use native.Mathlib.Omega.{arith}
+use mathlib.Core.Path.{◌≡◌, refl, sym, ◌∙◌}
+use Prim.Native.Nat.{ℕ, ◌-◌, ◌≤◌}
+use mathlib.Core.List.{List}
+use Rattle.sheet_bonds.proofs.has_partner.Given as goal
+
+abbrev pub invariant-loop-i : goal.invariant-loop-i
+invariant-loop-i l = (l.n ≡ entry_count l.b) × (l.i ≤ l.n) × (any (partner l.out l.hi l.at) (table l.i (nth_entry l.b)) ≡ false)
+
+abbrev pub decreases-loop-i : goal.decreases-loop-i
+decreases-loop-i l = l.n - l.i

@@ -1,0 +1,11 @@
+use Rattle.sheet_bonds.proofs.Tests.{in-wrong, out-wrong}
+use borrow.Author.Tests.{not-true, not-false}
+use mathlib.Core.Path.{sym, ◌∙◌}
+use borrow.Author.Rules.{rules}
+use Rattle.sheet_bonds.proofs.wrong_bonds.Goals as goal
+
+pub returns-then-not-bonds_good : goal.returns-then-not-bonds_good
+returns-then-not-bonds_good c = in-wrong _ (sym c.bonds_good.ensures ∙ c.if-not-bonds_good.true)
+
+pub returns : goal.returns
+returns c = out-wrong _ (sym c.bonds_good.ensures ∙ c.if-not-bonds_good.false) _ c.bonds_good-2.ensures

@@ -1,0 +1,14 @@
+use native.Mathlib.Omega.{arith}
+use Rattle.sheet_head.proofs.Pairs.{follow-left, follow-on, follow-end}
+use Rattle.sheet_head.specs.Conditions.{follow, parts_begin}
+use Rattle.format.specs.Parts.{pairs_of}
+use borrow.Author.Rules.{rules}
+use mathlib.Core.Path.{◌≡◌, sym, ◌∙◌}
+use Prim.Native.Nat.{◌+◌, ◌*◌, ◌≤◌}
+use Rattle.sheet_head.proofs.pairs_follow.Given as goal
+
+abbrev pub invariant-loop-left : goal.invariant-loop-left
+invariant-loop-left l = (l.k + l.left ≤ 300) × (l.at ≤ 65536 * (l.k + 1)) × (follow l.sheet (parts_begin l.sheet) 0 (pairs_of l.sheet) ≡ follow l.sheet l.at l.k l.left)
+
+abbrev pub decreases-loop-left : goal.decreases-loop-left
+decreases-loop-left l = l.left

@@ -1,0 +1,7 @@
+use Rattle.sheet_head.specs.Conditions.{wrong_version}
+use borrow.Author.Rules.{rules}
+use Rattle.sheet_head.proofs.wrong_version.Goals as goal
+
+pub returns : goal.returns
+unfolding wrong_version
+returns c = rw (c.version-v.ensures)
