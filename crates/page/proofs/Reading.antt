@@ -106,6 +106,12 @@ cut-length xs n m l e = e ∙ test (ltb n lent_firings)
     (λ h. rw h (sym (length-take-le n xs (let z = ltb-true n lent_firings h in omega arith))))
     (λ h. rw h (sym l ∙ ap length (sym (take_all n xs (let z = ltb-false n lent_firings h in omega arith)))))
 
+-- the first of them are the first n
+pub cut-same : {X : Type 0} (xs : List X) (n m : ℕ) → length xs ≡ lent_firings → m ≡ pick (ltb n lent_firings) n lent_firings → take m xs ≡ take n xs
+cut-same xs n m l e = ap (λ (k : ℕ). take k xs) e ∙ test (ltb n lent_firings)
+    (λ h. rw h refl)
+    (λ h. let far = ltb-false n lent_firings h in rw h (take_all lent_firings xs (omega arith) ∙ sym (take_all n xs (omega arith))))
+
 -- a list of the full length that was copied into a longer array of zeros
 pub lent-all : (list a : List Firing) (i : ℕ) → i ≡ max_live → length list ≡ max_live → a ≡ table i (λ j. get_or list j no_firing) ++ drop i (replicate lent_firings no_firing) → a ≡ list ++ (no_firing ∷ [])
 lent-all list a i e l q =

@@ -19,7 +19,7 @@ use Rattle.groups.proofs.send_back.Goals.{After-entry-e}
 -- the entry's base is below the limit
 near : (c : After-entry-e) → c.entry-e.result.base < max_bases
 near c =
-    subst (λ (x : Entry). x.base < max_bases) (sym c.entry-e.ensures) (c.requires.by_index.0 (c.loop-left.left - 1) (omega arith))
+    subst (λ (x : Entry). x.base < max_bases) (sym c.entry-e.ensures) (c.requires.by_index (c.loop-left.left - 1) (omega arith))
 
 pub loop-left-init : goal.loop-left-init
 loop-left-init c =
@@ -34,7 +34,7 @@ bounds-l-e c = let h = near (goal.at.bounds-l-e c).After-entry-e in omega arith
 
 pub send_moved-requires : goal.send_moved-requires
 send_moved-requires c =
-    let (bs, L) = c.requires.by_index.1 in record {
+    let (bs, L) = c.requires.labelled in record {
       places_len = sent-length max_bases (entry_count c.args.step.now) (may c.args.moved) (side true) (label_in c.args.l.now) (nth_entry c.args.step.now)
           c.args.places.now c.loop-left.left c.loop-left.places c.loop-left.invariant.1;
       x_lt_max_bases = (L.parted.low c.entry-e.result.base (near (goal.at.send_moved-requires c).After-entry-e), L.holds c.entry-e.result.base (near (goal.at.send_moved-requires c).After-entry-e));

@@ -4,10 +4,10 @@ use borrow.Author.Rules.{rules}
 use Rattle.lexing.proofs.number_at.Goals as goal
 
 pub returns-then-done : goal.returns-then-done
-returns-then-done c = number-stands c.args.text.now c.args.from _ c.end_of-to.ensures _ c.value_of_lem.ensures (sym c.ends_at-done.ensures ∙ c.if-done.true)
+returns-then-done c = number-stands c.args.text.now c.args.from _ c.end_of-to.ensures _ c.value_of-n.ensures (sym c.ends_at-done.ensures ∙ c.if-done.true)
 
 pub returns-then-joined : goal.returns-then-joined
-returns-then-joined c = number-joins c.args.text.now c.args.from _ c.end_of-to.ensures _ c.value_of_lem.ensures (sym c.ends_at-done.ensures ∙ c.if-done.false) (sym c.joins_at-joined.ensures ∙ c.if-joined.true)
+returns-then-joined c = number-joins c.args.text.now c.args.from _ c.end_of-to.ensures _ c.value_of-n.ensures (sym c.ends_at-done.ensures ∙ c.if-done.false) (sym c.joins_at-joined.ensures ∙ c.if-joined.true)
 
 pub returns : goal.returns
 returns c = number-wrong c.args.text.now c.args.from _ c.end_of-to.ensures (sym c.ends_at-done.ensures ∙ c.if-done.false) (sym c.joins_at-joined.ensures ∙ c.if-joined.false)

@@ -33,14 +33,14 @@ loop-n-preserved c =
     let done = c.next_step.ensures in (
       search rules,
       search rules,
-      done.1.1.0,
-      done.1.1.1,
-      done.1.1.2,
+      done.transitions_len_2.0,
+      done.transitions_len_2.1,
+      done.transitions_len_2.2,
       length-replicate max_live (transition 0),
-      after os n (given.live - n - 1) ls e ∙ ap (ordered (given.live - n - 1)) (sym done.1.0)
-          ∙ ap (λ (x : ℕ). ordered x (lines x c.next_step.new.0 c.next_step.new.1.0 c.next_step.new.1.1.0)) less,
+      after os n (given.live - n - 1) ls e ∙ ap (ordered (given.live - n - 1)) (sym done.moved_after)
+          ∙ ap (λ (x : ℕ). ordered x (lines x c.next_step.new.transitions c.next_step.new.keys c.next_step.new.moved)) less,
       fill-turn f n (replicate max_live (transition 0)) c.loop-n.steps (transition 0) c.next_step.result (rw (length-replicate max_live (transition 0)) (omega arith))
-          (done.0 ∙ ap transition (sym (here os n (given.live - n - 1) ls e))) c.loop-n.invariant.7,
+          (done.value ∙ ap transition (sym (here os n (given.live - n - 1) ls e))) c.loop-n.invariant.7,
     )
 
 pub returns : goal.returns

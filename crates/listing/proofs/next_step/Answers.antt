@@ -23,15 +23,13 @@ returns c =
     let i = c.next_at-i.result in
     let e : i ≡ next_at (lines live ts keys ms) = c.next_at-i.ensures.by_index keys in
     let h = c.next_at-i.ensures.upper_bound in
-    let made = c.close_up.ensures in (
-      c.transition_of.ensures ∙ ap (λ (x : Firing). transition x.transition) c.firing_at-f.ensures
-          ∙ ap (λ (l : LiveLine). transition l.transition.0) (sym (line-at max_bases (lying live ts keys ms) i h)) ∙ ap (λ (x : ℕ). transition (step_at (lines live ts keys ms) x)) e,
-      (
-        ap (lines_in max_bases) made ∙ lines-without live i ts keys ms h ∙ ap (λ (x : ℕ). without_at x (lines live ts keys ms)) e,
-        (
-          ap (λ (y : Firings). length y.transitions) made ∙ closed-long live i ts h (omega arith) ∙ c.requires.transitions_len.0,
-          ap (λ (y : Firings). length y.keys) made ∙ closed-long live i keys h (omega arith) ∙ c.requires.transitions_len.1,
-          ap (λ (y : Firings). length y.moved) made ∙ closed-long live i ms h (omega arith) ∙ c.requires.transitions_len.2,
-        ),
-      ),
-    )
+    let made = c.close_up.ensures in record {
+      value = c.transition_of.ensures ∙ ap (λ (x : Firing). transition x.transition) c.firing_at-f.ensures
+          ∙ ap (λ (l : LiveLine). transition l.transition.0) (sym (line-at max_bases (lying live ts keys ms) i h)) ∙ ap (λ (x : ℕ). transition (step_at (lines live ts keys ms) x)) e;
+      moved_after = ap (lines_in max_bases) made ∙ lines-without live i ts keys ms h ∙ ap (λ (x : ℕ). without_at x (lines live ts keys ms)) e;
+      transitions_len_2 = (
+        ap (λ (y : Firings). length y.transitions) made ∙ closed-long live i ts h (omega arith) ∙ c.requires.transitions_len.0,
+        ap (λ (y : Firings). length y.keys) made ∙ closed-long live i keys h (omega arith) ∙ c.requires.transitions_len.1,
+        ap (λ (y : Firings). length y.moved) made ∙ closed-long live i ms h (omega arith) ∙ c.requires.transitions_len.2,
+      );
+    }

@@ -16,7 +16,7 @@ pub loop-i-init : goal.loop-i-init
 loop-i-init c = (search rules, search rules, length-replicate lent_firings no_firing, refl)
 
 pub loop-i-preserved : goal.loop-i-preserved
-loop-i-preserved c = (search rules, c.loop-i.invariant.1, c.loop-i.invariant.2, fill-turn (λ j. get_or c.args.t1 j no_firing) c.loop-i.i _ _ no_firing _ (omega arith) refl c.loop-i.invariant.3)
+loop-i-preserved c = (search rules, c.loop-i.invariant.1, c.loop-i.invariant.2, fill-turn (λ j. get_or c.args.list j no_firing) c.loop-i.i _ _ no_firing _ (omega arith) refl c.loop-i.invariant.3)
 
 pub returns : goal.returns
-returns c = lent-all c.args.t1 _ c.loop-i.i (omega arith) c.loop-i.invariant.1 c.loop-i.invariant.3
+returns c = lent-all c.args.list _ c.loop-i.i (omega arith) c.loop-i.invariant.1 c.loop-i.invariant.3

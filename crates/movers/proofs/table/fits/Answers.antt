@@ -18,10 +18,10 @@ use Rattle.movers.proofs.table.fits.Goals.{After-mark_back}
 abbrev lines : After-mark_back → List ℕ → List LiveLine
 lines c ts = lines_in max_bases (lying c.args.live ts c.args.keys.now c.args.moved.now)
 
-made : (c : After-mark_back) (ts : List ℕ) → c.mark_back.new.0 ≡ last_movers max_bases (lines c ts)
+made : (c : After-mark_back) (ts : List ℕ) → c.mark_back.new.table ≡ last_movers max_bases (lines c ts)
 made c ts = c.mark_back.ensures ts ∙ movers-all (lines c ts) (replicate max_bases 0)
 
-made-size : (c : After-mark_back) → length c.mark_back.new.0 ≡ max_bases
+made-size : (c : After-mark_back) → length c.mark_back.new.table ≡ max_bases
 made-size c = ap length (made c []) ∙ length-table max_bases (λ p. last_mover p (lines c []))
 
 pub slice_bounds-same_keys-end-2 : goal.slice_bounds-same_keys-end-2

@@ -1,0 +1,27 @@
+use mathlib.Core.Path.{◌≡◌, refl, sym, ◌∙◌}
+use mathlib.Core.Bool.{not}
+use Prim.Native.Nat.{◌-◌, ◌≤◌}
+use native.Mathlib.Omega.{arith}
+use borrow.Author.Rules.{rules}
+use Rattle.net.specs.Tests.{any, table}
+use Rattle.net.specs.Net.{has_bond}
+use Rattle.net.specs.declared.Bond.{Bond}
+use Rattle.net.proofs.Tables.{any-more}
+use Rattle.format.specs.Arcs.{in_count, nth_in_bond}
+use Rattle.bonds.specs.Ends.{bonds_in}
+use Rattle.enabling.proofs.bond_absent.Goals as goal
+
+pub loop-i-init : goal.loop-i-init
+loop-i-init c = (c.in_count-asked.ensures, search rules, refl)
+
+pub loop-i-preserved : goal.loop-i-preserved
+loop-i-preserved c = (
+  search rules,
+  search rules,
+  rw (c.loop-i.invariant.2, c.has_bond.ensures, c.in_bond-b.ensures)
+      (sym (any-more (λ (d : Bond). not (has_bond d (bonds_in c.args.lo.now c.args.hi.now c.args.count))) c.loop-i.i
+      (nth_in_bond c.args.step.now))),
+)
+
+pub returns : goal.returns
+returns c = λ n places. let e : c.loop-i.i ≡ in_count c.args.step.now = omega arith in c.loop-i.invariant.2 ∙ rw e

@@ -1,0 +1,34 @@
+-- the entry's base is not at its out-place
+use mathlib.Core.Path.{◌≡◌, refl, sym, ◌∙◌, subst}
+use mathlib.Core.Bool.{Bool, not}
+use mathlib.Core.List.{List}
+use Prim.Native.Nat.{ℕ, ◌-◌, ◌<◌, ◌≤◌}
+use native.Mathlib.Omega.{arith}
+use lib.Dec.{eqb}
+use lib.ListN.{get_or}
+use borrow.Author.Rules.{rules}
+use Rattle.net.specs.Limits.{max_bases}
+use Rattle.net.specs.Tests.{any, table}
+use Rattle.net.specs.declared.Entry.{Entry}
+use Rattle.net.proofs.Tables.{any-more}
+use Rattle.format.specs.Arcs.{entry_count, nth_entry}
+use Rattle.enabling.proofs.elsewhere.Invariants.{away}
+use Rattle.enabling.proofs.elsewhere.Goals as goal
+
+pub loop-i-init : goal.loop-i-init
+loop-i-init c = (c.entry_count-count.ensures, search rules, refl)
+
+pub bounds-places-base : goal.bounds-places-base
+bounds-places-base c =
+    let h = subst (λ (x : Entry). x.base < max_bases) (sym c.entry-e.ensures) (c.requires c.loop-i.i (omega arith)) in
+    omega arith
+
+pub loop-i-preserved : goal.loop-i-preserved
+loop-i-preserved c = (
+  search rules,
+  search rules,
+  rw (c.loop-i.invariant.2, c.entry-e.ensures) (sym (any-more (away c.args.places.now) c.loop-i.i (nth_entry c.args.step.now))),
+)
+
+pub returns : goal.returns
+returns c = let e : c.loop-i.i ≡ entry_count c.args.step.now = omega arith in c.loop-i.invariant.2 ∙ rw e

@@ -1,0 +1,26 @@
+-- the entry's base is not at its in-place
+use mathlib.Core.Path.{◌≡◌, refl, sym, ◌∙◌, subst}
+use mathlib.Core.Bool.{Bool, not}
+use mathlib.Core.List.{List}
+use Prim.Native.Nat.{ℕ, ◌-◌, ◌<◌, ◌≤◌}
+use native.Mathlib.Omega.{arith}
+use lib.Dec.{eqb}
+use lib.ListN.{get_or}
+use borrow.Author.Rules.{rules}
+use Rattle.net.specs.Tests.{any, table}
+use Rattle.net.specs.declared.Entry.{Entry}
+use Rattle.net.proofs.Tables.{any-more}
+use Rattle.format.specs.Arcs.{entry_count, nth_entry, arcs_in}
+use Rattle.marking.specs.Held.{holding}
+use Rattle.groups.proofs.Moving.{table-each}
+use Rattle.enabling.proofs.Readiness.{misplaced-here}
+use Rattle.enabling.proofs.misplaced.Given as goal
+
+abbrev pub away : List ℕ → Entry → Bool
+away ps e = not (eqb (get_or ps e.base 0) e.from)
+
+abbrev pub invariant-loop-i : goal.invariant-loop-i
+invariant-loop-i l = (l.count ≡ entry_count l.step) × (l.i ≤ l.count) × (l.found ≡ any (away l.places) (table l.i (nth_entry l.step)))
+
+abbrev pub decreases-loop-i : goal.decreases-loop-i
+decreases-loop-i l = l.count - l.i

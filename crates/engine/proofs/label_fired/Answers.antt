@@ -1,0 +1,7 @@
+use mathlib.Core.Path.{sym}
+use borrow.Author.Rules.{rules}
+use Rattle.enabling.proofs.Keeping.{labelled-is}
+use Rattle.engine.proofs.label_fired.Goals as goal
+
+pub returns-then-whole : goal.returns-then-whole
+returns-then-whole c = λ bs L e. labelled-is _ _ _ _ (sym (e c.if-whole.true)) (c.join_out_bonds.ensures bs L)

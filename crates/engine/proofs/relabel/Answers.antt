@@ -1,0 +1,8 @@
+use borrow.Author.Rules.{rules}
+use Rattle.engine.proofs.relabel.Goals as goal
+
+pub returns-then-same : goal.returns-then-same
+returns-then-same c = c.requires.labelled c.if-same.true
+
+pub returns : goal.returns
+returns c = c.label_in.ensures

@@ -1,0 +1,16 @@
+use mathlib.Core.Path.{sym, ◌∙◌, ap}
+use borrow.Author.Rules.{rules}
+use Rattle.format.specs.Arcs.{arcs_in}
+use Rattle.bonds.specs.Ends.{bonds_in}
+use Rattle.marking.specs.Form.{with_bonds}
+use Rattle.marking.specs.Held.{holding_bonds}
+use Rattle.enabling.proofs.Keeping.{left-all}
+use Rattle.engine.proofs.take_broken.Goals as goal
+
+pub returns-then-whole : goal.returns-then-whole
+returns-then-whole c =
+    let m = holding_bonds c.args.count c.args.lo.now c.args.hi.now in
+    c.requires.0.form ∙ ap (with_bonds m) (sym (left-all (arcs_in c.args.step.now) (sym c.requires.1 ∙ c.if-whole.true) (bonds_in c.args.lo.now c.args.hi.now c.args.count)))
+
+pub returns : goal.returns
+returns c = c.take_bonds.ensures

@@ -1,0 +1,18 @@
+use mathlib.Core.Bool.{Bool, ◌&&◌}
+use lib.Dec.{eqb}
+use Rattle.forms.specs.Forms.{numbers}
+use Rattle.lexing.specs.Tokens.{row}
+use Rattle.forms.proofs.Rows.{number-none, number-here, number-later}
+use borrow.Author.Rules.{rules}
+use native.Mathlib.Omega.{arith}
+use mathlib.Core.Path.{◌≡◌, ap, sym, ◌∙◌}
+use Prim.Native.Nat.{◌≤◌}
+use lib.ListN.{length, get_or, drop}
+use Rattle.forms.proofs.nth_number.Given as goal
+
+abbrev pub invariant-loop-left : goal.invariant-loop-left
+invariant-loop-left l =
+    (l.i ≤ length l.text) × (get_or (numbers (row l.left (drop l.i l.text))) l.skip 0 ≡ get_or (numbers (row l.n (drop l.at l.text))) l.k 0)
+
+abbrev pub decreases-loop-left : goal.decreases-loop-left
+decreases-loop-left l = l.left

@@ -1,0 +1,5 @@
+use borrow.Author.Rules.{rules}
+use Rattle.forms.proofs.suits_number.Goals as goal
+
+pub returns-in-Number : goal.returns-in-Number
+returns-in-Number c = rw c.in-Number.is

@@ -1,0 +1,6 @@
+use mathlib.Core.Path.{◌∙◌}
+use borrow.Author.Rules.{rules}
+use Rattle.forms.proofs.suits_word.Goals as goal
+
+pub returns-in-Word : goal.returns-in-Word
+returns-in-Word c = c.same_word.ensures ∙ rw c.in-Word.is

@@ -1,0 +1,8 @@
+use mathlib.Core.Path.{refl}
+use Prim.Native.Nat.{◌+◌, ◌-◌}
+use Rattle.lamps.specs.Lamps.{not_shown}
+use Rattle.lamps.proofs.show_none.Goals as goal
+
+pub returns : goal.returns
+unfolding not_shown
+returns c = refl

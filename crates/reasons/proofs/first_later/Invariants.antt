@@ -1,0 +1,21 @@
+use borrow.Author.Rules.{rules}
+use native.Mathlib.Omega.{arith}
+use mathlib.Core.Path.{◌≡◌, sym, ◌∙◌}
+use mathlib.Core.List.{List}
+use Prim.Native.Nat.{ℕ, ◌+◌, ◌-◌, ◌≤◌}
+use lib.ListN.{get_or}
+use Rattle.net.specs.Limits.{max_bases, max_live}
+use Rattle.words.specs.Sets.{set_of}
+use Rattle.firings.proofs.Lines.{lines}
+use Rattle.reasons.specs.Reasons.{later_at}
+use Rattle.net.specs.Journal.{common}
+use Rattle.reasons.proofs.Later.{from, later-begin, later-here, later-on, later-none}
+use Rattle.reasons.proofs.first_later.Given as goal
+
+abbrev pub invariant-loop-j : goal.invariant-loop-j
+invariant-loop-j l =
+    (l.mine ≡ get_or l.moved l.i 0) × (l.i + 1 ≤ l.j) × (l.j ≤ l.live) × (l.live ≤ max_live)
+    × ((ts keys : List ℕ) → later_at (lines l.live ts keys l.moved) l.i ≡ from l.live ts keys l.moved l.i l.j)
+
+abbrev pub decreases-loop-j : goal.decreases-loop-j
+decreases-loop-j l = l.live - l.j
