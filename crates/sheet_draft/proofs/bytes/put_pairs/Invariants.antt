@@ -1,0 +1,17 @@
+use Rattle.sheet_draft.proofs.Writing.{joined-upto, all-pairs, pairs-written, joined-length-more}
+use Rattle.sheet_draft.specs.Bytes.{stretch_at, stretches_in}
+use Rattle.text.proofs.Writes.{Written, written_none, written-pair}
+use Rattle.encode.specs.Encoding.{pairs}
+use Rattle.text.specs.Joined.{joined}
+use borrow.Author.Rules.{rules}
+use native.Mathlib.Omega.{arith}
+use mathlib.Core.Path.{◌≡◌}
+use Prim.Native.Nat.{◌+◌, ◌-◌, ◌*◌, ◌≤◌}
+use lib.ListN.{length}
+use Rattle.sheet_draft.proofs.bytes.put_pairs.Given as goal
+
+abbrev pub invariant-loop-j : goal.invariant-loop-j
+invariant-loop-j l = (l.j ≤ l.n) × (l.n ≤ 257) × (length l.acts ≤ 65535) × (l.from + length (joined (stretches_in l.n l.acts)) ≤ 65535) × (l.at + 4 * l.n ≤ length l.initial.buf) × (length l.buf ≡ length l.initial.buf) × (l.offset ≡ l.from + length (joined (stretches_in l.j l.acts))) × Written l.initial.buf l.at (pairs l.from (stretches_in l.j l.acts)) l.pos l.buf
+
+abbrev pub decreases-loop-j : goal.decreases-loop-j
+decreases-loop-j l = l.n - l.j

@@ -1,0 +1,14 @@
+use Rattle.sheet_draft.proofs.Tagged.{bytes-length}
+use native.Mathlib.Omega.{arith}
+use mathlib.Core.Path.{sym}
+use borrow.Author.Rules.{rules}
+use Rattle.sheet_draft.proofs.bytes.put_some.Goals as goal
+
+pub slice_bounds-put_word-end : goal.slice_bounds-put_word-end
+slice_bounds-put_word-end c = sym (bytes-length c.args.w c.args.x c.requires.0)
+
+pub put_word-requires : goal.put_word-requires
+put_word-requires c = omega (arith, bytes-length c.args.w c.args.x c.requires.0)
+
+pub returns : goal.returns
+returns c = c.put_word.ensures

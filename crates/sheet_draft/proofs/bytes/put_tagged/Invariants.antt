@@ -1,0 +1,17 @@
+use Rattle.sheet_draft.proofs.Writing.{tagged-written}
+use lib.Seq.{take_all}
+use Rattle.sheet_draft.proofs.Tagged.{room-one}
+use Rattle.sheet_draft.specs.Bytes.{tagged}
+use Rattle.text.proofs.Writes.{Written, written_none, written-pair}
+use borrow.Author.Rules.{rules}
+use native.Mathlib.Omega.{arith}
+use mathlib.Core.Path.{◌≡◌}
+use Prim.Native.Nat.{◌+◌, ◌-◌, ◌≤◌}
+use lib.ListN.{length, take}
+use Rattle.sheet_draft.proofs.bytes.put_tagged.Given as goal
+
+abbrev pub invariant-loop-i : goal.invariant-loop-i
+invariant-loop-i l = (l.i ≤ length l.acts) × (l.w ≤ 3) × (l.at + length (tagged l.w l.tag l.acts) ≤ length l.initial.buf) × (length l.buf ≡ length l.initial.buf) × Written l.initial.buf l.at (tagged l.w l.tag (take l.i l.acts)) l.pos l.buf
+
+abbrev pub decreases-loop-i : goal.decreases-loop-i
+decreases-loop-i l = length l.acts - l.i

@@ -1,0 +1,7 @@
+use Rattle.sheet_draft.proofs.Writing.{step-length}
+use native.Mathlib.Omega.{arith}
+use borrow.Author.Rules.{rules}
+use Rattle.sheet_draft.proofs.bytes.step_size.Goals as goal
+
+pub returns : goal.returns
+returns c = omega (arith, step-length c.args.acts.now c.args.k, c.tagged_size-a.ensures.0, c.tagged_size-b.ensures.0, c.tagged_size-c.ensures.0)

@@ -1,0 +1,15 @@
+use Rattle.sheet_draft.proofs.Tagged.{count-more, width-upto}
+use borrow.Author.Rules.{rules}
+use lib.Seq.{take_all}
+use Rattle.sheet_draft.specs.Bytes.{count_of}
+use native.Mathlib.Omega.{arith}
+use mathlib.Core.Path.{◌≡◌, refl, ap, ◌∙◌}
+use Prim.Native.Nat.{◌-◌, ◌≤◌}
+use lib.ListN.{length, get_or, take}
+use Rattle.sheet_draft.proofs.counts.count_of.Given as goal
+
+abbrev pub invariant-loop-i : goal.invariant-loop-i
+invariant-loop-i l = (l.i ≤ length l.acts) × (l.n ≤ l.i) × (l.n ≡ count_of l.tag (take l.i l.acts))
+
+abbrev pub decreases-loop-i : goal.decreases-loop-i
+decreases-loop-i l = length l.acts - l.i

@@ -1,0 +1,15 @@
+use mathlib.Core.Bool.{◌&&◌}
+use Rattle.sheet_draft.specs.Bytes.{step_fits}
+use Rattle.net.proofs.Tables.{all_more}
+use Rattle.net.specs.Tests.{all, table}
+use borrow.Author.Rules.{rules}
+use native.Mathlib.Omega.{arith}
+use mathlib.Core.Path.{◌≡◌, refl, sym, ◌∙◌}
+use Prim.Native.Nat.{◌-◌, ◌≤◌}
+use Rattle.sheet_draft.proofs.counts.steps_fit.Given as goal
+
+abbrev pub invariant-loop-k : goal.invariant-loop-k
+invariant-loop-k l = (l.k ≤ l.steps) × (l.steps ≤ 65535) × (l.fine ≡ all (step_fits l.acts) (table l.k (λ i. i)))
+
+abbrev pub decreases-loop-k : goal.decreases-loop-k
+decreases-loop-k l = l.steps - l.k

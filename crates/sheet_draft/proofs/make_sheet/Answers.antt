@@ -1,0 +1,46 @@
+use Rattle.sheet_draft.proofs.Sheet.{few-parts, few-steps, all_fit}
+use Rattle.sheet_draft.specs.Bytes.{count_of, counts_fit}
+use Rattle.sheet_draft.specs.declared.Made.TheVariants.{Sheet}
+use borrow.Author.Tests.{not-true, not-false, leb-true}
+use mathlib.Core.Bool.{true, false}
+use native.Mathlib.Omega.{arith}
+use mathlib.Core.Path.{◌≡◌, refl, ap, sym, ◌∙◌}
+use lib.ListN.{take}
+use borrow.Author.Rules.{rules}
+use Rattle.sheet_draft.proofs.make_sheet.Goals as goal
+
+pub returns-then-not-fine : goal.returns-then-not-fine
+returns-then-not-fine c =
+    let t : counts_fit c.args.steps c.args.acts.now ≡ false = sym c.counts_fit-fine.ensures ∙ c.if-not-fine.true in
+    rw t (refl, refl)
+
+pub overflow_cast-parts : goal.overflow_cast-parts
+overflow_cast-parts c =
+    let t : counts_fit c.args.steps c.args.acts.now ≡ true = sym c.counts_fit-fine.ensures ∙ c.if-not-fine.false in
+    let n = leb-true (count_of 0 c.args.acts.now) 255 (few-parts c.args.acts.now c.args.steps t) in
+    omega (arith, c.count_of-parts.ensures)
+
+pub overflow_cast-steps : goal.overflow_cast-steps
+overflow_cast-steps c =
+    let t : counts_fit c.args.steps c.args.acts.now ≡ true = sym c.counts_fit-fine.ensures ∙ c.if-not-fine.false in
+    let n = leb-true c.args.steps 255 (few-steps c.args.acts.now c.args.steps t) in
+    omega arith
+
+pub put_sheet-size-requires : goal.put_sheet-size-requires
+put_sheet-size-requires c =
+    let t : counts_fit c.args.steps c.args.acts.now ≡ true = sym c.counts_fit-fine.ensures ∙ c.if-not-fine.false in
+    let h = c.requires.0 in (
+      record {
+        counted = c.count_of-parts.ensures;
+        few_steps = leb-true c.args.steps 255 (few-steps c.args.acts.now c.args.steps t);
+        fit = all_fit c.args.acts.now c.args.steps t;
+        few_acts = h.few_acts;
+        size = h.size;
+      },
+      c.requires.1,
+    )
+
+pub returns : goal.returns
+returns c =
+    let t : counts_fit c.args.steps c.args.acts.now ≡ true = sym c.counts_fit-fine.ensures ∙ c.if-not-fine.false in
+    rw t (ap Sheet c.put_sheet-size.ensures.0, c.put_sheet-size.ensures.1)

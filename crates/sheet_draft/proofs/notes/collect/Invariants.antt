@@ -1,0 +1,14 @@
+use lib.ListN.{length-set}
+use Rattle.sheet_draft.proofs.Lines.{Sofar, sofar-begin, sofar-on, note-small, too_large, collected, refused}
+use borrow.Author.Rules.{rules}
+use native.Mathlib.Omega.{arith}
+use mathlib.Core.Path.{◌≡◌, refl}
+use Prim.Native.Nat.{◌+◌, ◌-◌}
+use lib.ListN.{length, take}
+use Rattle.sheet_draft.proofs.notes.collect.Given as goal
+
+abbrev pub invariant-loop-at : goal.invariant-loop-at
+invariant-loop-at l = (length l.acts ≡ length l.initial.acts) × Sofar l.text l.at l.n l.places l.steps l.size l.acts
+
+abbrev pub decreases-loop-at : goal.decreases-loop-at
+decreases-loop-at l = length l.text + 1 - l.at

@@ -1,0 +1,6 @@
+use Rattle.sheet_text.proofs.FirstLine.{slice-take}
+use borrow.Author.Rules.{rules}
+use Rattle.sheet_text.proofs.line_at.Goals as goal
+
+pub returns : goal.returns
+returns c = rw (slice-take c.args.text.now c.args.at c.args.to c.requires.0 c.requires.1) c.line_of.ensures
