@@ -11,6 +11,7 @@ use lib.ListN.{length, length-append}
 use borrow.Author.Tests.{eq-eqb, ne_eqb}
 use Rattle.net.specs.Tests.{table}
 use Rattle.net.specs.Net.{Arcs, bond, no_arcs}
+use Rattle.net.specs.declared.Entry.{Entry}
 use Rattle.net.proofs.Tables.{table-cong, table-snoc, table_more}
 use Rattle.lexing.proofs.Items.{never}
 use Rattle.sheet_text.specs.Reading.{draft, none, on_last, arcs, in_step, added}
@@ -131,7 +132,7 @@ module _ (P : ℕ) (A : List ℕ) where
 
   pub move-adds : (S p x y : ℕ) → p ≤ 255 → x ≤ 255 → y ≤ 255 → not (none (table S (step_in A))) ≡ true → added (net_in P S A) (Move p x y) ≡ net_in P S (A ++ (act_of (3 * S) p x y ∷ []))
   move-adds zero p x y a b c n = never n
-  move-adds (suc m) p x y a b c n = step-act P m A w _ (omega (arith, tag)) (omega (arith, tag)) made
+  move-adds (suc m) p x y a b c n = step-act P m A w (λ (t : Arcs). arcs (t.entries ++ ((record { base = p; from = x; to = y }) ∷ [])) t.in_bonds t.out_bonds) (omega (arith, tag)) (omega (arith, tag)) made
     where
       w : ℕ
       w = act_of (3 * suc m) p x y
@@ -145,7 +146,7 @@ module _ (P : ℕ) (A : List ℕ) where
 
   pub before-adds : (S p q : ℕ) → p ≤ 255 → q ≤ 255 → not (none (table S (step_in A))) ≡ true → added (net_in P S A) (Before p q) ≡ net_in P S (A ++ (act_of (3 * S + 1) p q 0 ∷ []))
   before-adds zero p q a b n = never n
-  before-adds (suc m) p q a b n = step-act P m A w _ (omega (arith, tag)) (omega (arith, tag)) made
+  before-adds (suc m) p q a b n = step-act P m A w (λ (t : Arcs). arcs t.entries (t.in_bonds ++ (bond p q ∷ [])) t.out_bonds) (omega (arith, tag)) (omega (arith, tag)) made
     where
       w : ℕ
       w = act_of (3 * suc m + 1) p q 0
@@ -159,7 +160,7 @@ module _ (P : ℕ) (A : List ℕ) where
 
   pub after-adds : (S p q : ℕ) → p ≤ 255 → q ≤ 255 → not (none (table S (step_in A))) ≡ true → added (net_in P S A) (After p q) ≡ net_in P S (A ++ (act_of (3 * S + 2) p q 0 ∷ []))
   after-adds zero p q a b n = never n
-  after-adds (suc m) p q a b n = step-act P m A w _ (omega (arith, tag)) (omega (arith, tag)) made
+  after-adds (suc m) p q a b n = step-act P m A w (λ (t : Arcs). arcs t.entries t.in_bonds (t.out_bonds ++ (bond p q ∷ []))) (omega (arith, tag)) (omega (arith, tag)) made
     where
       w : ℕ
       w = act_of (3 * suc m + 2) p q 0

@@ -12,7 +12,10 @@ use Rattle.sheet_draft.proofs.make_sheet.Goals as goal
 pub returns-then-not-fine : goal.returns-then-not-fine
 returns-then-not-fine c =
     let t : counts_fit c.args.steps c.args.acts.now ≡ false = sym c.counts_fit-fine.ensures ∙ c.if-not-fine.true in
-    rw t (refl, refl)
+    rw t record {
+      value = refl;
+      buf_after = refl;
+    }
 
 pub overflow_cast-parts : goal.overflow_cast-parts
 overflow_cast-parts c =
@@ -43,4 +46,7 @@ put_sheet-size-requires c =
 pub returns : goal.returns
 returns c =
     let t : counts_fit c.args.steps c.args.acts.now ≡ true = sym c.counts_fit-fine.ensures ∙ c.if-not-fine.false in
-    rw t (ap Sheet c.put_sheet-size.ensures.0, c.put_sheet-size.ensures.1)
+    rw t record {
+      value = ap Sheet c.put_sheet-size.ensures.0;
+      buf_after = c.put_sheet-size.ensures.1;
+    }

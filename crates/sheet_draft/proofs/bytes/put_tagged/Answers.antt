@@ -15,12 +15,12 @@ loop-i-init c = (search rules, search rules, search rules, search rules, written
 
 pub put_some-pos-requires : goal.put_some-pos-requires
 put_some-pos-requires c =
-    let (p, q) = room-one c.args.w c.args.tag c.args.acts.now c.loop-i.i c.width_of_lem.result c.loop-i.invariant.1 (omega arith) c.width_of_lem.ensures in
+    let (p, q) = room-one c.args.w c.args.tag c.args.acts.now c.loop-i.i c.width_of-v.result c.loop-i.invariant.1 (omega arith) c.width_of-v.ensures in
     (p, omega (arith, q, c.loop-i.invariant.4.count))
 
 pub loop-i-preserved : goal.loop-i-preserved
 loop-i-preserved c =
-    let w = tagged-written c.args.w c.args.tag c.args.acts.now c.loop-i.i _ (omega arith) c.width_of_lem.ensures c.loop-i.invariant.4 c.put_some_lem.ensures in
+    let w = tagged-written c.args.w c.args.tag c.args.acts.now c.loop-i.i _ (omega arith) c.width_of-v.ensures c.loop-i.invariant.4 c.put_some-pos.ensures in
     (omega arith, search rules, search rules, search rules, w)
 
 pub returns : goal.returns

@@ -13,14 +13,14 @@ loop-i-init c = (search rules, search rules, refl)
 
 pub overflow_add-n : goal.overflow_add-n
 overflow_add-n c =
-    let z = width-upto (get_or c.args.acts.now c.loop-i.i 0) c.args.tag 1 1 c.width_of_lem.result c.width_of_lem.ensures (omega arith) in
+    let z = width-upto (get_or c.args.acts.now c.loop-i.i 0) c.args.tag 1 1 c.width_of-n.result c.width_of-n.ensures (omega arith) in
     omega arith
 
 pub loop-i-preserved : goal.loop-i-preserved
 loop-i-preserved c =
-    let z = width-upto (get_or c.args.acts.now c.loop-i.i 0) c.args.tag 1 1 c.width_of_lem.result c.width_of_lem.ensures (omega arith) in
+    let z = width-upto (get_or c.args.acts.now c.loop-i.i 0) c.args.tag 1 1 c.width_of-n.result c.width_of-n.ensures (omega arith) in
     let e = count-more c.args.tag c.args.acts.now c.loop-i.i (omega arith) in
-    (omega arith, omega arith, omega (arith, e, c.width_of_lem.ensures))
+    (omega arith, omega arith, omega (arith, e, c.width_of-n.ensures))
 
 pub returns : goal.returns
 returns c =

@@ -6,4 +6,4 @@ use Rattle.sheet_draft.proofs.counts.counts_fit.Goals as goal
 
 pub returns : goal.returns
 unfolding counts_fit
-returns c = three-tests (c.is_byte_lem.ensures ∙ ap byte c.requires.0) c.is_byte-b.ensures c.steps_fit-c.ensures c.both.ensures c.both-2.ensures
+returns c = three-tests (c.is_byte-a.ensures ∙ ap byte c.requires.0) c.is_byte-b.ensures c.steps_fit-c.ensures c.both.ensures c.both-2.ensures
