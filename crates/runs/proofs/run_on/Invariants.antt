@@ -1,0 +1,25 @@
+-- the labels are those of the bonds, and all is as after the first i commands; what was held at the start is sound
+use borrow.Author.Rules.{rules}
+use native.Mathlib.Omega.{arith}
+use mathlib.Core.Path.{◌≡◌, refl, ap, ◌∙◌}
+use mathlib.Core.List.{List}
+use Prim.Native.Nat.{ℕ, ◌-◌, ◌*◌, ◌<◌, ◌≤◌}
+use lib.ListN.{length-set, length, take, drop}
+use Rattle.bonds.specs.Ends.{bonds_in}
+use Rattle.labels.specs.Labelled.{Labelled}
+use Rattle.replaying.proofs.Lines.{placed-fits, placed-ends}
+use Rattle.sound.proofs.Holds.{placed}
+use Rattle.command_list.specs.Commands.{how_many}
+use Rattle.runs.specs.Running.{held_at}
+use Rattle.runs.specs.declared.Held.{Held}
+use Rattle.runs.proofs.Turns.{Upto, upto-none, upto-kept, upto-more, upto_all}
+use Rattle.runs.proofs.run_on.Given as goal
+
+abbrev pub invariant-loop-at : goal.invariant-loop-at
+invariant-loop-at l =
+    (l.at ≡ 3 * l.i) × (l.i ≤ how_many l.commands) × (how_many l.commands ≤ length l.initial.words) × (how_many l.commands ≤ length l.initial.values) × (length l.words ≡ length l.initial.words) × (length l.values ≡ length l.initial.values)
+    × Labelled l.l l.members (bonds_in l.lo l.hi l.count)
+    × Upto l.sheet (held_at l.initial.places l.initial.count l.initial.lo l.initial.hi l.initial.live l.initial.transitions l.initial.keys l.initial.moved l.initial.movers l.initial.given) l.commands l.initial.counts l.initial.words l.initial.values l.i (held_at l.places l.count l.lo l.hi l.live l.transitions l.keys l.moved l.movers l.given) l.counts l.words l.values × (length l.commands < 9223372036854775808)
+
+abbrev pub decreases-loop-at : goal.decreases-loop-at
+decreases-loop-at l = length l.commands - l.at
