@@ -6,5 +6,4 @@ pub mod Values
 pub mod Answering
 pub mod Begins
 pub mod Answers
-pub mod Lending
 pub mod Blocks
