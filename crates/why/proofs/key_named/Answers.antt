@@ -1,0 +1,20 @@
+use borrow.Author.Rules.{rules}
+use mathlib.Core.Path.{ap, ◌∙◌}
+use Rattle.net.specs.Journal.{key, highest_live, number_of}
+use Rattle.format.specs.Parts.{bases_of}
+use Rattle.session.specs.Records.{held_in}
+use Rattle.sound.proofs.Given.{last-given}
+use Rattle.sound.proofs.Holds.{live-few, held}
+use Rattle.why.proofs.Latest.{kind-last, kind-key}
+use Rattle.why.proofs.key_named.Goals as goal
+
+pub last_key-requires : goal.last_key-requires
+last_key-requires c = live-few c.args.sheet.now c.args.r.marking c.args.r.firings c.args.r.given c.requires.passed
+
+pub returns-then-kind-eq2 : goal.returns-then-kind-eq2
+returns-then-kind-eq2 c =
+    c.last_key.ensures ∙ last-given (bases_of c.args.sheet.now) c.args.r.firings (held c.args.sheet.now c.args.r.marking c.args.r.firings c.args.r.given c.requires.passed).up
+    ∙ kind-last c.args.bytes.now c.byte_at-kind.result c.byte_at-kind.ensures (highest_live (held_in c.args.sheet.now c.args.r).lines) (key (number_of c.args.bytes.now)) c.if-kind-eq2.true
+
+pub returns : goal.returns
+returns c = ap key c.word_at-n.ensures.value ∙ kind-key c.args.bytes.now c.byte_at-kind.result c.byte_at-kind.ensures (highest_live (held_in c.args.sheet.now c.args.r).lines) (key (number_of c.args.bytes.now)) c.if-kind-eq2.false

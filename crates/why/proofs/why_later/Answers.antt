@@ -1,0 +1,42 @@
+-- the function's start
+use borrow.Author.Rules.{rules}
+use native.Mathlib.Omega.{arith}
+use Rattle.net.specs.Limits.{max_bases}
+use Rattle.words.specs.Sets.{set_of}
+use Rattle.sound.proofs.Holds.{live-few, keys-rise}
+use Rattle.why.proofs.Latest.{part_low, live_here, later-here, later-is}
+use Rattle.why.proofs.why_later.Goals as goal
+
+pub key_named-k-requires : goal.key_named-k-requires
+key_named-k-requires c = c.requires.sound
+
+pub index_of-i-requires : goal.index_of-i-requires
+index_of-i-requires c = (live-few c.args.sheet.now c.args.r.marking c.args.r.firings c.args.r.given c.requires.sound.passed, keys-rise c.args.sheet.now c.args.r.marking c.args.r.firings c.args.r.given c.requires.sound.passed)
+
+pub first_later-at-requires : goal.first_later-at-requires
+first_later-at-requires c = (live_here c.args.sheet.now c.args.r c.args.bytes.now c.requires.sound c.requires.answer c.key_named-k.result c.key_named-k.ensures c.index_of-i.result c.index_of-i.ensures, live-few c.args.sheet.now c.args.r.marking c.args.r.firings c.args.r.given c.requires.sound.passed)
+
+pub firing_at-mine-requires : goal.firing_at-mine-requires
+firing_at-mine-requires c =
+    let h = live_here c.args.sheet.now c.args.r c.args.bytes.now c.requires.sound c.requires.answer c.key_named-k.result c.key_named-k.ensures c.index_of-i.result c.index_of-i.ensures in
+    let f = live-few c.args.sheet.now c.args.r.marking c.args.r.firings c.args.r.given c.requires.sound.passed in
+    omega arith
+
+pub firing_at-other-requires : goal.firing_at-other-requires
+firing_at-other-requires c =
+    let h = later-here c.args.sheet.now c.args.r c.args.bytes.now c.requires.sound c.requires.answer c.key_named-k.result c.key_named-k.ensures c.index_of-i.result c.index_of-i.ensures
+    c.first_later-at.result (c.first_later-at.ensures c.args.r.firings.transitions c.args.r.firings.keys) in
+    let f = live-few c.args.sheet.now c.args.r.marking c.args.r.firings c.args.r.given c.requires.sound.passed in
+    omega arith
+
+pub overflow_cast-result : goal.overflow_cast-result
+overflow_cast-result c =
+    let e = c.first_common-p.ensures in
+    let h = part_low (set_of max_bases c.firing_at-mine.result.moved) (set_of max_bases c.firing_at-other.result.moved) in
+    record { fits = omega arith }
+
+pub returns : goal.returns
+returns c =
+    later-is c.args.sheet.now c.args.r c.args.bytes.now c.requires.sound c.requires.answer c.key_named-k.result c.key_named-k.ensures c.index_of-i.result c.index_of-i.ensures
+    c.first_later-at.result (c.first_later-at.ensures c.args.r.firings.transitions c.args.r.firings.keys)
+    c.firing_at-mine.result c.firing_at-other.result c.firing_at-mine.ensures c.firing_at-other.ensures c.first_common-p.result c.first_common-p.ensures
