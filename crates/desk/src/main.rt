@@ -8,64 +8,86 @@ ghost use Rattle.std.specs.Prelude.{◌<◌, ◌≤◌};
 
 use crate::program::{Task, take_file, take_named};
 use script_lines::same::same_bytes;
+use std::env::{Env, FillError};
 
 // Whether an argument is a word.
-fn is_word(i: usize, word: &[u8]) -> bool {
+fn is_word(rt: &HostRuntime, i: usize, word: &[u8]) -> bool {
     let mut arg = io::buffer();
-    let n = os::arg(i, &mut arg);
-    same_bytes(&arg[..n], word)
+    match rt.arg(i, &mut arg) {
+        Ok(n) => same_bytes(&arg[..n], word),
+        Err(_) => false,
+    }
+}
+
+// Whether there is an argument at i.
+fn is_given(rt: &HostRuntime, i: usize) -> bool {
+    let mut arg = [0u8; 1];
+    match rt.arg(i, &mut arg) {
+        Err(FillError::NotPresent) => false,
+        _ => true,
+    }
+}
+
+// How many arguments there are, the program's name among them.
+fn count_arguments(rt: &HostRuntime) -> usize {
+    for i in 0..usize::MAX {
+        if !is_given(rt, i) {
+            return i;
+        }
+    }
+    usize::MAX
 }
 
 // What the argument at i says: a task for the next one, or nothing.
-fn task_at(i: usize) -> Task {
-    if is_word(i, b"make") {
+fn task_at(rt: &HostRuntime, i: usize) -> Task {
+    if is_word(rt, i, b"make") {
         return Task::Make;
     }
-    if is_word(i, b"show") {
+    if is_word(rt, i, b"show") {
         return Task::Show;
     }
     Task::Script
 }
 
 // The file at i, or the task at i with the file behind it. Answers where the next one stands; the caller has i below count.
-fn take_next(i: usize, count: usize) -> usize
+fn take_next(rt: &HostRuntime, i: usize, count: usize) -> usize
     requires { i < count }
     ensures { (i < result) × (result ≤ count) }
 {
     let next = i + 1;
-    let task = task_at(i);
+    let task = task_at(rt, i);
     if next == count {
-        take_named(Task::Script, i);
+        take_named(rt, Task::Script, i);
         return next;
     }
     match task {
         Task::Script => {
-            take_named(Task::Script, i);
+            take_named(rt, Task::Script, i);
             next
         }
         Task::Make => {
-            take_named(Task::Make, next);
+            take_named(rt, Task::Make, next);
             next + 1
         }
         Task::Show => {
-            take_named(Task::Show, next);
+            take_named(rt, Task::Show, next);
             next + 1
         }
     }
 }
 
-fn take_all(count: usize) {
+fn take_all(rt: &HostRuntime, count: usize) {
     let mut i = 1;
     while i < count {
-        i = take_next(i, count);
+        i = take_next(rt, i, count);
     }
 }
 
-fn main() {
-    let count = os::arg_count();
+fn main(rt: HostRuntime) {
+    let count = count_arguments(&rt);
     if count < 2 {
-        take_file(Task::Script, b"standard input", 0);
+        take_file(Task::Script, b"standard input", &mut rt.stdin());
         return;
     }
-    take_all(count);
+    take_all(&rt, count);
 }

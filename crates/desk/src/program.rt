@@ -3,6 +3,10 @@
 use reading::read_all;
 use script::desk::run_script;
 use script_make::files::{make, show};
+use std::env::Env;
+use std::fs;
+use std::io::{Error, Read};
+use std::str::from_utf8;
 
 // Room for a script or an input, for a sheet, and for the longest answer. Only their lengths matter.
 const TEXT: usize = 1048576;
@@ -49,9 +53,9 @@ fn work(task: Task, name: &[u8], text: &[u8]) -> bool {
 }
 
 // One file, read whole: nothing is done with a part of it.
-pub fn take_file(task: Task, name: &[u8], fd: i32) {
+pub fn take_file<R: Read>(task: Task, name: &[u8], input: &mut R) {
     let mut text = text_room();
-    let got = read_all(fd, &mut text);
+    let got = read_all(input, &mut text);
     if got.failed {
         complain(name, b": could not be read\n");
         return;
@@ -66,18 +70,45 @@ pub fn take_file(task: Task, name: &[u8], fd: i32) {
     }
 }
 
-pub fn take_named(task: Task, i: usize) {
+// What the system says of an error; the library writes its number behind that.
+fn system_words(text: &str) -> &[u8] {
+    match text.find(" (os error ") {
+        Some(n) => &text.as_bytes()[..n],
+        None => text.as_bytes(),
+    }
+}
+
+// Says on standard error why a file was not opened.
+fn complain_of(alloc: Global, name: &[u8], error: Error) {
+    match format!(in alloc; "{error}") {
+        Ok(text) => {
+            io::write_all(2, name);
+            io::write_all(2, b": ");
+            io::write_all(2, system_words(text.as_str()));
+            io::write_all(2, b"\n");
+        }
+        Err(_) => complain(name, b": could not be opened\n"),
+    }
+}
+
+// The file of that name. The library opens only names that are text.
+fn take_path(rt: &HostRuntime, task: Task, path: &[u8]) {
+    match from_utf8(path) {
+        Ok(name) => match fs::open(rt, name) {
+            Ok(file) => {
+                let mut input = file;
+                take_file(task, path, &mut input);
+            }
+            Err(error) => complain_of(rt.alloc(), path, error),
+        },
+        Err(_) => complain(path, b": the name is not text\n"),
+    }
+}
+
+pub fn take_named(rt: &HostRuntime, task: Task, i: usize) {
     let mut path = io::buffer();
-    let n = os::arg(i, &mut path);
-    if os::errno() != 0 {
-        os::fail(b"desk");
-        return;
+    match rt.arg(i, &mut path) {
+        Ok(n) => take_path(rt, task, &path[..n]),
+        Err(_) => complain(b"File name too long", b"\n"),
     }
-    let fd = os::open_read(&path[..n]);
-    if fd < 0 {
-        os::fail(&path[..n]);
-        return;
-    }
-    take_file(task, &path[..n], fd);
-    libc::close(fd);
 }

@@ -37,9 +37,9 @@ fn answer(input: &[u8]) {
 }
 
 // An input that could not be read is answered on standard error alone.
-fn main() {
+fn main(rt: HostRuntime) {
     let mut input = input_room();
-    let got = read_input(&mut input);
+    let got = read_input(&mut rt.stdin(), &mut input);
     if got.failed {
         io::write_all(2, b"exam: the input could not be read\n");
         return;

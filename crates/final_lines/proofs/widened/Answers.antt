@@ -14,10 +14,10 @@ pub loop-i-init : goal.loop-i-init
 loop-i-init c = (search rules, search rules, search rules, refl)
 
 pub loop-i-preserved : goal.loop-i-preserved
-loop-i-preserved c = (search rules, search rules, search rules, fill-turn (λ k. get_or c.args.t1 k 0) c.loop-i.i _ _ 0 _ (omega arith) refl c.loop-i.invariant.3)
+loop-i-preserved c = (search rules, search rules, search rules, fill-turn (λ k. get_or c.args.places k 0) c.loop-i.i _ _ 0 _ (omega arith) refl c.loop-i.invariant.3)
 
 pub returns : goal.returns
 returns c =
-    let places = c.args.t1 in
+    let places = c.args.places in
     let filled = fill_end (λ k. get_or places k 0) c.loop-i.i (length places) _ _ c.loop-i.invariant.2 (omega arith) c.loop-i.invariant.3 in
     filled ∙ table-list places 0

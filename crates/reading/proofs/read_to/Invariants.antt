@@ -1,0 +1,15 @@
+use borrow.Author.Rules.{rules}
+use native.Mathlib.Omega.{arith}
+use mathlib.Core.Path.{◌≡◌, refl, ◌∙◌}
+use mathlib.Core.Bool.{false}
+use Prim.Native.Nat.{◌-◌, ◌≤◌}
+use lib.ListN.{length, take}
+use Rattle.causal.proofs.Tests.{both}
+use Rattle.output.proofs.Input.{take_less}
+use Rattle.reading.proofs.read_to.Given as goal
+
+abbrev pub invariant-loop-at : goal.invariant-loop-at
+invariant-loop-at g l = (l.from ≤ l.at) × (l.at ≤ l.to) × (l.to ≤ length l.initial.room) × (length l.room ≡ length l.initial.room) × (take l.from l.room ≡ take l.from l.initial.room)
+
+abbrev pub decreases-loop-at : goal.decreases-loop-at
+decreases-loop-at g l = l.to - l.at
