@@ -3,6 +3,7 @@
 use reading::read_all;
 use script::desk::run_script;
 use script_make::files::{make, show};
+use std::alloc::Global;
 use std::env::Env;
 use std::fs;
 use std::io::{Error, Read};

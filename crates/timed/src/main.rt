@@ -18,44 +18,54 @@ use blocks::{run_blocks, run_list};
 use format::word_at;
 use lists::run_lists;
 use singly::run_singly;
+use std::env::{Env, FillError};
 use ways::run_ways;
 
 // Whether the word at i begins with a letter.
-fn begins(i: usize, letter: u8) -> bool {
+fn begins(rt: &HostRuntime, i: usize, letter: u8) -> bool {
     let mut word = io::buffer();
-    os::arg(i, &mut word);
+    let _ = rt.arg(i, &mut word);
     word[0] == letter
 }
 
+// Whether there is a word at i.
+fn is_given(rt: &HostRuntime, i: usize) -> bool {
+    let mut word = [0u8; 1];
+    match rt.arg(i, &mut word) {
+        Err(FillError::NotPresent) => false,
+        _ => true,
+    }
+}
+
 // The commands in the way that the word at i names.
-fn run_as(i: usize, sheet: &[u8], commands: &[u8])
+fn run_as(rt: &HostRuntime, i: usize, sheet: &[u8], commands: &[u8])
     requires { length commands.now ≤ 65536 }
 {
-    if begins(i, b's') {
+    if begins(rt, i, b's') {
         run_singly(sheet, commands);
     }
-    if begins(i, b'b') {
+    if begins(rt, i, b'b') {
         run_blocks(sheet, commands);
     }
-    if begins(i, b'r') {
+    if begins(rt, i, b'r') {
         run_list(sheet, commands);
     }
-    if begins(i, b'w') {
+    if begins(rt, i, b'w') {
         run_ways(sheet, commands);
     }
-    if begins(i, b'l') {
+    if begins(rt, i, b'l') {
         run_lists(sheet, commands);
     }
 }
 
-fn run_all(sheet: &[u8], commands: &[u8])
+fn run_all(rt: &HostRuntime, sheet: &[u8], commands: &[u8])
     requires { length commands.now ≤ 65536 }
 {
-    let count = os::arg_count();
-    let mut i = 1;
-    while i < count {
-        run_as(i, sheet, commands);
-        i += 1;
+    for i in 1..usize::MAX {
+        if !is_given(rt, i) {
+            return;
+        }
+        run_as(rt, i, sheet, commands);
     }
 }
 
@@ -66,7 +76,7 @@ fn at_most(n: usize, most: usize) -> usize
     if n < most { n } else { most }
 }
 
-fn parted(input: &[u8])
+fn parted(rt: &HostRuntime, input: &[u8])
     requires { length input.now ≤ 65536 }
 {
     let n = input.len();
@@ -75,11 +85,11 @@ fn parted(input: &[u8])
     if end < begin {
         return;
     }
-    run_all(&input[begin..end], &input[end..n]);
+    run_all(rt, &input[begin..end], &input[end..n]);
 }
 
-fn main() {
+fn main(rt: HostRuntime) {
     let mut input = io::large_buffer();
     let n = io::read_full(0, &mut input);
-    parted(&input[..n]);
+    parted(&rt, &input[..n]);
 }

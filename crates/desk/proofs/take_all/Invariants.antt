@@ -1,6 +1,7 @@
--- `timed::run_all` is safe and ends.
-use Rattle.std.proofs.Common.{◌-◌, rules}
-use Rattle.timed.proofs.run_all.Given as goal
+-- `desk::take_all` is safe and ends.
+use borrow.Author.Rules.{rules}
+use Prim.Native.Nat.{◌-◌}
+use Rattle.desk.proofs.take_all.Given as goal
 
 abbrev pub invariant-loop-i : goal.invariant-loop-i
 invariant-loop-i l = Unit {0}
