@@ -2,7 +2,7 @@
 -- Assumes nothing.
 use mathlib.Core.Path.{◌≡◌, refl, sym, ◌∙◌, ap}
 use mathlib.Core.List.{List, [], ◌∷◌, ◌++◌, map}
-use Prim.Native.Nat.{ℕ, zero, suc, ◌+◌, ◌-◌, ◌<◌, ◌≤◌}
+use Prim.Native.Nat.{ℕ, zero, suc, ◌+◌, ◌-◌}
 use native.Mathlib.Omega.{arith}
 use lib.ListN.{length, get_or, drop, replicate}
 use lib.Seq.{get_or-drop, drop-drop}
@@ -12,12 +12,10 @@ use Rattle.net.specs.Journal.{LiveLine, no_line, transition}
 use Rattle.net.specs.declared.Transition.{Transition}
 use Rattle.net.proofs.Tables.{table-list}
 use Rattle.bonds.proofs.Fill.{map-table}
-use Rattle.marking.specs.Form.{padWith}
 use Rattle.marking.proofs.Padding.{drop-replicate}
 use Rattle.firings.specs.Lines.{steps_of}
 use Rattle.listing.specs.First.{step_at, next_at, without_at, ordered, listing}
 use Rattle.listing.specs.Listing.{listing_of}
-use Rattle.listing.specs.declared.Listing.{Listing}
 use Rattle.net.specs.declared.Verdict.TheVariants.{Accepted}
 
 pub ordered-long : (n : ℕ) (ls : List LiveLine) → length (ordered n ls) ≡ n

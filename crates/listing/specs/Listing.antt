@@ -3,7 +3,6 @@
 use Rattle.std.specs.Prelude.{List, map, ℕ, length, replicate}
 use Rattle.net.specs.Limits.{max_live}
 use Rattle.net.specs.Journal.{transition}
-use Rattle.net.specs.declared.Transition.{Transition}
 use Rattle.marking.specs.Form.{padWith}
 use Rattle.net.specs.declared.Verdict.TheVariants.{Accepted, Refused}
 use Rattle.listing.specs.declared.Listing.{Listing}

@@ -3,15 +3,14 @@
 use mathlib.Core.Path.{◌≡◌, refl, sym, ◌∙◌, ap, ap₂}
 use mathlib.Core.Bool.{Bool, true, false, not, ◌&&◌, ◌||◌}
 use mathlib.Core.List.{List, [], ◌∷◌}
-use Prim.Native.Nat.{ℕ, zero, suc, ◌<◌}
-use native.Mathlib.Omega.{arith}
+use Prim.Native.Nat.{ℕ}
 use lib.Dec.{eqb}
-use lib.ListN.{length, get_or}
+use lib.ListN.{get_or}
 use Rattle.net.specs.Tests.{pick, all, table}
 use Rattle.net.specs.Firing.{in_set}
 use Rattle.net.specs.Journal.{LiveLine, no_line, same_key, is_live, line_of}
 use Rattle.net.specs.declared.Key.{Key}
-use Rattle.firings.proofs.Lines.{SameLine, same_line, SameLines, same_length, same_at}
+use Rattle.firings.proofs.Lines.{SameLine, same_line, SameLines, same_at}
 use Rattle.movers.specs.Tops.{moved_in, top_of, top_at, TopPlace}
 use Rattle.movers.specs.Lamp.{mover_from, last_mover, last_movers, on_top, lamp}
 

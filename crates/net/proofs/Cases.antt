@@ -13,7 +13,6 @@ use Rattle.net.specs.Firing.{torn_with}
 use Rattle.net.specs.Cases.{net_b, fire_of, marked, AllHold}
 use Rattle.net.specs.Clutch.{net_c, clutch_cases}
 use Rattle.net.specs.Claims.{all_new_bonds, all_broken_bonds}
-use Rattle.net.specs.declared.Bond.{Bond}
 use Rattle.net.specs.declared.Transition.{Transition}
 use Rattle.net.specs.declared.Key.{Key}
 

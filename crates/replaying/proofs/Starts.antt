@@ -18,7 +18,6 @@ use Rattle.format.specs.NetOf.{start_bond_count, nth_start_bond, start_marking, 
 use Rattle.sheet.specs.Checks.{sheet_checks}
 use Rattle.sheet.proofs.Accepted.{promised}
 use Rattle.marking.specs.Form.{marking_of, laid}
-use Rattle.marking.specs.declared.Marking.{Marking}
 use Rattle.marking.proofs.Forms.{marking-laid}
 use Rattle.marking.proofs.Room.{bonds-fit}
 use Rattle.fresh_marking.specs.Start.{StartFits}

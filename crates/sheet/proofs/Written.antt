@@ -1,24 +1,23 @@
 -- The couplings that a sheet writes take up bytes of it, and no two the same bytes: so they are no more than its length gives (02, T-10).
 -- Assumes that the pairs follow one another and that each transition has the length that its counts give.
 use mathlib.Core.Path.{◌≡◌, subst}
-use mathlib.Core.Bool.{Bool, true, false, not, ◌&&◌}
-use mathlib.Core.List.{List, [], ◌++◌}
+use mathlib.Core.Bool.{true, false, not}
+use mathlib.Core.List.{List}
 use Prim.Native.Nat.{ℕ, zero, suc, ◌+◌, ◌*◌, ◌<◌, ◌≤◌}
 use native.Mathlib.Omega.{arith}
 use native.Mathlib.Nat.{le_trans}
-use lib.Dec.{eqb, leb, ltb}
-use lib.ListN.{length, take, drop, length-append, length-take}
+use lib.Dec.{eqb, leb}
+use lib.ListN.{length, drop, length-append, length-take}
 use borrow.Author.Tests.{eqb-true, lt-ltb, not-false}
-use Rattle.net.specs.Tests.{pick, table}
+use Rattle.net.specs.Tests.{table}
 use Rattle.net.specs.Net.{Arcs, arcs_bonds, all_bonds, written}
 use Rattle.net.specs.Journal.{transition}
-use Rattle.net.specs.declared.Bond.{Bond}
 use Rattle.net.specs.declared.Transition.{Transition}
-use Rattle.net.proofs.Tests.{and_l, and_r, or-no-l, pick-case}
+use Rattle.net.proofs.Tests.{and_r, or-no-l, pick-case}
 use Rattle.net.proofs.Tables.{length-table}
-use Rattle.format.specs.Bytes.{outside, bond_width, leading_pairs}
+use Rattle.format.specs.Bytes.{bond_width, leading_pairs}
 use Rattle.format.specs.Parts.{transitions_of, pairs_of, offset_of, length_of, part_of, start_bonds, transition_bytes}
-use Rattle.format.specs.Arcs.{entry_count, in_count, out_count, nth_in_bond, nth_out_bond, arcs_width, arcs_in}
+use Rattle.format.specs.Arcs.{in_count, out_count, nth_in_bond, nth_out_bond, arcs_width, arcs_in}
 use Rattle.format.specs.NetOf.{start_bond_count, nth_start_bond, start_marking, net_of}
 use Rattle.sheet_head.specs.Conditions.{parts_begin, follow}
 use Rattle.sheet_arcs.specs.Conditions.{wrong_width}

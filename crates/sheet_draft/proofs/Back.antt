@@ -1,16 +1,16 @@
 -- For every accepted sheet of bytes, what is made of its printed text is the sheet; and sheet B's text as a person writes it.
 -- Assumes nothing.
 use mathlib.Core.Path.{◌≡◌, refl, sym, ap, ◌∙◌}
-use mathlib.Core.Bool.{Bool, true, ◌&&◌}
-use Prim.Native.Nat.{ℕ, zero, suc, ◌+◌, ◌≤◌, ◌<◌}
+use mathlib.Core.Bool.{true, ◌&&◌}
+use Prim.Native.Nat.{ℕ, ◌+◌, ◌≤◌}
 use native.Mathlib.Omega.{arith}
-use mathlib.Core.List.{List, [], ◌∷◌}
+use mathlib.Core.List.{List, []}
 use lib.Dec.{leb, ltb}
-use lib.ListN.{length, get_or, take, drop}
-use borrow.Author.Tests.{le-leb, ltb-true}
+use lib.ListN.{length, take, drop}
+use borrow.Author.Tests.{le-leb}
 use Rattle.net.specs.Tests.{all, table}
 use Rattle.net.specs.Journal.{transition}
-use Rattle.net.proofs.Tests.{and_l, and_r, and_i, pick-case}
+use Rattle.net.proofs.Tests.{and_i, pick-case}
 use Rattle.net.proofs.Tables.{length-table}
 use Rattle.format.specs.Bytes.{leading_pairs}
 use Rattle.format.specs.Parts.{transitions_of, part_of, length_of, offset_of, transition_bytes}

@@ -11,7 +11,6 @@ use lib.ListN.{length, length-append}
 use borrow.Author.Tests.{eq-eqb, ne_eqb}
 use Rattle.net.specs.Tests.{table}
 use Rattle.net.specs.Net.{Arcs, bond, no_arcs}
-use Rattle.net.specs.declared.Entry.{Entry}
 use Rattle.net.proofs.Tables.{table-cong, table-snoc, table_more}
 use Rattle.lexing.proofs.Items.{never}
 use Rattle.sheet_text.specs.Reading.{draft, none, on_last, arcs, in_step, added}

@@ -10,7 +10,7 @@ use lib.Dec.{leb, ltb}
 use lib.ListN.{length, take, drop, set, length-set}
 use lib.Seq.{slice, take-set-le, take-suc-set}
 use borrow.Author.Tests.{ltb-true, ltb-false, leb-true, le-leb, lt-leb}
-use Rattle.net.specs.Tests.{pick, all}
+use Rattle.net.specs.Tests.{pick}
 use Rattle.lexing.specs.Tokens.{lines_of, row}
 use Rattle.lexing.specs.Found.{Reaches}
 use Rattle.lexing.specs.declared.Class.TheVariants.{InLine}

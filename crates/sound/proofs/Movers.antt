@@ -1,6 +1,6 @@
 -- The lines that arrays hold, with a flag for each base that a word has room for, and with one for each base of the sheet: alike, and
 -- so with one table of last movers (02, T-06). Assumes no more bases than the limit, and moved sets of those bases alone.
-use mathlib.Core.Path.{◌≡◌, refl, ap}
+use mathlib.Core.Path.{◌≡◌, ap}
 use mathlib.Core.Bool.{true, not, ◌||◌}
 use mathlib.Core.List.{List}
 use Prim.Native.Nat.{ℕ, ◌^◌, ◌<◌, ◌≤◌}

@@ -2,7 +2,7 @@
 -- Definitions only.
 use Rattle.std.specs.Prelude.{ℕ, List}
 use Prim.Native.String.{String, [], ◌∷◌}
-use Prim.Native.Char.{Char, code}
+use Prim.Native.Char.{code}
 use mathlib.Core.List as L
 
 -- a byte for each character: its code, which is below 128 for every character that is used here

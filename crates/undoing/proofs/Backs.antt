@@ -4,7 +4,7 @@ use mathlib.Core.Path.{◌≡◌, sym, ◌∙◌, ap, subst}
 use mathlib.Core.Logic.{inl, inr}
 use mathlib.Core.Bool.{true}
 use mathlib.Core.List.{List, [], ◌∷◌, ◌++◌}
-use Prim.Native.Nat.{ℕ, ◌+◌, ◌<◌, ◌≤◌}
+use Prim.Native.Nat.{ℕ, ◌<◌, ◌≤◌}
 use native.Mathlib.Omega.{arith}
 use lib.ListN.{length}
 use Rattle.causal.specs.Lists.{Mem}
@@ -32,7 +32,7 @@ use Rattle.firings.proofs.Laid.{mem-at}
 use Rattle.firings.proofs.Changes.{without-line}
 use Rattle.steps.proofs.Arcs.{count-of}
 use Rattle.sound.specs.Soundness.{journal_in, Passed}
-use Rattle.sound.proofs.Holds.{rule, few, held, live-is, firings-are}
+use Rattle.sound.proofs.Holds.{rule, held, live-is, firings-are}
 use Rattle.sound.proofs.Fits.{held_back, held-passed}
 use Rattle.undoing.specs.Back.{line_at, UndoneAt}
 use Rattle.undoing.proofs.Places.{Found, line-found}

@@ -1,5 +1,4 @@
 -- the function's start, and what was lent
-use borrow.Author.Rules.{rules}
 use native.Mathlib.Omega.{arith}
 use mathlib.Core.Path.{refl}
 use Rattle.sheet.proofs.Accepted.{promised}

@@ -1,6 +1,4 @@
 -- the function's start, and what was lent
-use borrow.Author.Rules.{rules}
-use borrow.Author.Tests.{not-true, not-false}
 use native.Mathlib.Omega.{arith}
 use Prim.Native.Nat.{◌<◌}
 use Rattle.net.specs.Limits.{max_live}

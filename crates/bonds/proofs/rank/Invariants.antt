@@ -1,13 +1,8 @@
-use mathlib.Core.Path.{◌≡◌, sym, ◌∙◌}
+use mathlib.Core.Path.{◌≡◌}
 use mathlib.Core.Bool.{true, false}
-use Prim.Native.Nat.{ℕ, ◌+◌, ◌<◌, ◌≤◌, ◌/◌}
-use native.Mathlib.Omega.{arith}
-use borrow.Author.Rules.{rules}
-use Rattle.net.specs.declared.Bond.{Bond}
-use Rattle.net.specs.Net.{same_bond, less_bond}
-use Rattle.net.proofs.Bonds.{bond-order}
+use Prim.Native.Nat.{ℕ, ◌+◌, ◌<◌, ◌≤◌}
+use Rattle.net.specs.Net.{less_bond}
 use Rattle.bonds.specs.Ends.{ends}
-use Rattle.bonds.proofs.Halves.{first-pass, below, not-below}
 use Rattle.bonds.proofs.rank.Given as goal
 
 abbrev pub invariant-loop-n : goal.invariant-loop-n

@@ -1,14 +1,11 @@
-use borrow.Author.Rules.{rules}
-use native.Mathlib.Omega.{arith}
 use mathlib.Core.Path.{◌≡◌}
 use Prim.Native.Nat.{◌+◌, ◌-◌, ◌*◌, ◌≤◌}
 use lib.ListN.{length}
 use Rattle.net.specs.Tests.{table}
 use Rattle.text.specs.Joined.{joined}
-use Rattle.text.proofs.Writes.{Written, written_none, written-pair}
-use Rattle.text.proofs.Joined.{table-written}
+use Rattle.text.proofs.Writes.{Written}
 use Rattle.closing.specs.Closing.{bond_room}
-use Rattle.closing.proofs.Lines.{bond_at, bonds-table, bonds-upto}
+use Rattle.closing.proofs.Lines.{bond_at}
 use Rattle.closing.proofs.put_bonds.Given as goal
 
 abbrev pub invariant-loop-i : goal.invariant-loop-i

@@ -1,4 +1,3 @@
-use borrow.Author.Rules.{rules}
 use Rattle.closing.proofs.Lines.{item-pieces}
 use Rattle.closing.proofs.put_item.Goals as goal
 

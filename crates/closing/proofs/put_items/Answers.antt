@@ -1,13 +1,9 @@
 use borrow.Author.Rules.{rules}
 use native.Mathlib.Omega.{arith}
 use mathlib.Core.Path.{◌≡◌}
-use Prim.Native.Nat.{◌+◌, ◌-◌, ◌*◌, ◌≤◌}
 use lib.ListN.{length}
-use Rattle.net.specs.Tests.{table}
-use Rattle.text.specs.Joined.{joined}
-use Rattle.text.proofs.Writes.{Written, written_none, written-pair}
+use Rattle.text.proofs.Writes.{written_none, written-pair}
 use Rattle.text.proofs.Joined.{table-written}
-use Rattle.closing.specs.Closing.{item_room}
 use Rattle.closing.proofs.Lines.{item_at, items-table, items-upto}
 use Rattle.closing.proofs.put_items.Goals as goal
 

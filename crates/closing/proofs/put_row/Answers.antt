@@ -1,4 +1,3 @@
-use borrow.Author.Rules.{rules}
 use native.Mathlib.Omega.{arith}
 use Rattle.closing.proofs.Lines.{row-pieces, items-length}
 use Rattle.closing.proofs.put_row.Goals as goal

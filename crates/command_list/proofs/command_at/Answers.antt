@@ -1,6 +1,4 @@
 use Rattle.command_list.proofs.Parts.{cut-part, whole_part}
-use Prim.Native.Nat.{◌-◌}
-use borrow.Author.Rules.{rules}
 use Rattle.command_list.proofs.command_at.Goals as goal
 
 pub returns-then-n-at-lt3 : goal.returns-then-n-at-lt3

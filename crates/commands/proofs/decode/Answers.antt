@@ -1,6 +1,4 @@
-use Prim.Native.Nat.{◌-◌}
 use Rattle.commands.proofs.Decoding.{is-fire, is-undo, no_kind, no_number, is-undo-last}
-use borrow.Author.Rules.{rules}
 use Rattle.commands.proofs.decode.Goals as goal
 
 pub returns-then-kind-eq1 : goal.returns-then-kind-eq1

@@ -1,12 +1,9 @@
-use mathlib.Core.Path.{◌≡◌, refl, sym, ◌∙◌}
+use mathlib.Core.Path.{◌≡◌}
 use mathlib.Core.Bool.{not}
 use Prim.Native.Nat.{◌-◌, ◌≤◌}
-use native.Mathlib.Omega.{arith}
-use borrow.Author.Rules.{rules}
 use Rattle.net.specs.Tests.{any, table}
 use Rattle.net.specs.Net.{has_bond}
 use Rattle.net.specs.declared.Bond.{Bond}
-use Rattle.net.proofs.Tables.{any-more}
 use Rattle.format.specs.Arcs.{in_count, nth_in_bond}
 use Rattle.bonds.specs.Ends.{bonds_in}
 use Rattle.enabling.proofs.bond_absent.Given as goal

@@ -1,17 +1,8 @@
 -- one turn meets no more than there are
-use mathlib.Core.Path.{◌≡◌, refl, sym, ◌∙◌, ap}
-use mathlib.Core.List.{List}
-use Prim.Native.Nat.{ℕ, ◌+◌, ◌-◌, ◌<◌, ◌≤◌}
-use native.Mathlib.Omega.{arith}
-use borrow.Author.Rules.{rules}
-use borrow.Author.Tests.{ltb-true}
-use lib.Dec.{eqb, ltb}
-use mathlib.Core.Bool.{Bool, true, false, ◌&&◌}
-use Rattle.net.specs.Tests.{pick}
-use Rattle.net.specs.Net.{same_bond}
-use Rattle.net.proofs.Tests.{and_l, and_r}
+use mathlib.Core.Path.{◌≡◌}
+use Prim.Native.Nat.{◌-◌, ◌≤◌}
 use Rattle.format.specs.Arcs.{in_count, nth_in_bond, out_count, nth_out_bond}
-use Rattle.enabling.proofs.Line.{onward, line-more, line-end}
+use Rattle.enabling.proofs.Line.{onward}
 use Rattle.enabling.proofs.in_line.Given as goal
 
 abbrev pub invariant-loop-met : goal.invariant-loop-met

@@ -1,7 +1,5 @@
 use mathlib.Core.Path.{sym, ◌∙◌, ap}
 use mathlib.Core.Bool.{Bool, not, ◌&&◌}
-use borrow.Author.Rules.{rules}
-use borrow.Author.Tests.{not-true, not-false}
 use Rattle.net.specs.Net.{has_bond}
 use Rattle.format.specs.Arcs.{arcs_in}
 use Rattle.enabling.proofs.is_broken.Goals as goal

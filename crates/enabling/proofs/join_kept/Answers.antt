@@ -1,6 +1,5 @@
 use mathlib.Core.Path.{◌≡◌, sym, ◌∙◌, ap}
 use mathlib.Core.Bool.{Bool, true, false}
-use borrow.Author.Rules.{rules}
 use Rattle.net.specs.Tests.{pick}
 use Rattle.net.specs.Sorted.{put}
 use Rattle.net.specs.Net.{same_bond, less_bond}

@@ -1,16 +1,10 @@
-use mathlib.Core.Path.{◌≡◌, refl, sym, ◌∙◌}
+use mathlib.Core.Path.{◌≡◌}
 use mathlib.Core.Bool.{true}
-use mathlib.Core.List.{List}
-use Prim.Native.Nat.{ℕ, ◌-◌, ◌≤◌}
-use native.Mathlib.Omega.{arith}
-use borrow.Author.Rules.{rules}
-use borrow.Author.Tests.{not-true, not-false}
+use Prim.Native.Nat.{◌-◌, ◌≤◌}
 use Rattle.net.specs.Tests.{all, table}
 use Rattle.net.specs.Net.{has_bond}
 use Rattle.net.specs.declared.Bond.{Bond}
 use Rattle.format.specs.Arcs.{in_count, nth_in_bond, arcs_in}
-use Rattle.format.proofs.Loops.{all-on, all_left, all_end}
-use Rattle.enabling.proofs.Line.{line-all}
 use Rattle.enabling.proofs.keeps_all.Given as goal
 
 abbrev pub invariant-loop-i : goal.invariant-loop-i

@@ -1,9 +1,8 @@
 use borrow.Author.Rules.{rules}
 use native.Mathlib.Omega.{arith}
 use mathlib.Core.Path.{◌≡◌, refl, subst}
-use Prim.Native.Nat.{ℕ, ◌+◌, ◌<◌, ◌≤◌}
+use Prim.Native.Nat.{ℕ, ◌<◌}
 use mathlib.Core.Bool.{not}
-use Rattle.net.specs.Limits.{max_bonds}
 use Rattle.net.specs.Tests.{keep}
 use Rattle.net.specs.Firing.{broken_bond}
 use Rattle.net.specs.declared.Bond.{Bond}

@@ -1,16 +1,13 @@
-use borrow.Author.Rules.{rules}
-use native.Mathlib.Omega.{arith}
-use mathlib.Core.Path.{◌≡◌, refl, subst}
-use Prim.Native.Nat.{ℕ, ◌+◌, ◌<◌, ◌≤◌}
+use mathlib.Core.Path.{◌≡◌}
+use Prim.Native.Nat.{◌+◌, ◌≤◌}
 use mathlib.Core.Bool.{not}
 use Rattle.net.specs.Limits.{max_bonds}
 use Rattle.net.specs.Tests.{keep}
 use Rattle.net.specs.Firing.{broken_bond}
 use Rattle.net.specs.declared.Bond.{Bond}
 use Rattle.format.specs.Arcs.{arcs_in}
-use Rattle.bonds.specs.Ends.{ends, bonds_in}
+use Rattle.bonds.specs.Ends.{bonds_in}
 use Rattle.labels.specs.Labelled.{Labelled}
-use Rattle.enabling.proofs.Keeping.{labelled-same, left-turn}
 use Rattle.enabling.proofs.label_kept.Given as goal
 
 abbrev pub invariant-loop-left : goal.invariant-loop-left

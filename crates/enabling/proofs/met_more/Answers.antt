@@ -1,7 +1,6 @@
 use mathlib.Core.Path.{◌≡◌, sym, ◌∙◌, ap}
 use mathlib.Core.Bool.{Bool}
 use Prim.Native.Nat.{◌+◌}
-use borrow.Author.Rules.{rules}
 use Rattle.net.specs.Tests.{pick}
 use Rattle.net.specs.Net.{same_bond}
 use Rattle.format.specs.Arcs.{nth_in_bond, nth_out_bond}

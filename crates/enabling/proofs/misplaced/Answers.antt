@@ -1,13 +1,8 @@
 -- the entry's base is not at its in-place
 use mathlib.Core.Path.{◌≡◌, refl, sym, ◌∙◌, subst}
-use mathlib.Core.Bool.{Bool, not}
-use mathlib.Core.List.{List}
-use Prim.Native.Nat.{ℕ, ◌-◌, ◌<◌, ◌≤◌}
+use Prim.Native.Nat.{◌<◌}
 use native.Mathlib.Omega.{arith}
-use lib.Dec.{eqb}
-use lib.ListN.{get_or}
 use borrow.Author.Rules.{rules}
-use Rattle.net.specs.Tests.{any, table}
 use Rattle.net.specs.declared.Entry.{Entry}
 use Rattle.net.proofs.Tables.{any-more}
 use Rattle.format.specs.Arcs.{entry_count, nth_entry, arcs_in}

@@ -1,19 +1,13 @@
 -- the entry's base is not at its in-place
-use mathlib.Core.Path.{◌≡◌, refl, sym, ◌∙◌, subst}
+use mathlib.Core.Path.{◌≡◌}
 use mathlib.Core.Bool.{Bool, not}
 use mathlib.Core.List.{List}
-use Prim.Native.Nat.{ℕ, ◌-◌, ◌<◌, ◌≤◌}
-use native.Mathlib.Omega.{arith}
+use Prim.Native.Nat.{ℕ, ◌-◌, ◌≤◌}
 use lib.Dec.{eqb}
 use lib.ListN.{get_or}
-use borrow.Author.Rules.{rules}
 use Rattle.net.specs.Tests.{any, table}
 use Rattle.net.specs.declared.Entry.{Entry}
-use Rattle.net.proofs.Tables.{any-more}
-use Rattle.format.specs.Arcs.{entry_count, nth_entry, arcs_in}
-use Rattle.marking.specs.Held.{holding}
-use Rattle.groups.proofs.Moving.{table-each}
-use Rattle.enabling.proofs.Readiness.{misplaced-here}
+use Rattle.format.specs.Arcs.{entry_count, nth_entry}
 use Rattle.enabling.proofs.misplaced.Given as goal
 
 abbrev pub away : List ℕ → Entry → Bool

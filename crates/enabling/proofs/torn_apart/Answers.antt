@@ -1,7 +1,6 @@
 use mathlib.Core.Path.{ap, sym, ◌∙◌}
 use mathlib.Core.Bool.{not}
 use mathlib.Core.List.{List}
-use borrow.Author.Rules.{rules}
 use Rattle.net.specs.Tests.{keep}
 use Rattle.net.specs.Firing.{broken_bond, torn_with}
 use Rattle.net.specs.declared.Bond.{Bond}

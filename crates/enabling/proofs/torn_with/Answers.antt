@@ -1,6 +1,5 @@
 use mathlib.Core.Path.{◌∙◌}
 use Prim.Native.Nat.{◌<◌}
-use borrow.Author.Rules.{rules}
 use Rattle.net.specs.Limits.{max_bases}
 use Rattle.net.specs.declared.Entry.{Entry}
 use Rattle.format.specs.Arcs.{arcs_in, entry_count, nth_entry}

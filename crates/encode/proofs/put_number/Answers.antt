@@ -2,7 +2,6 @@ use native.Mathlib.Numerals.{add-one}
 use lib.ListN.{length-set}
 use native.Mathlib.Omega.{arith}
 use mathlib.Core.Path.{refl}
-use borrow.Author.Rules.{rules}
 use Rattle.encode.proofs.put_number.Goals as goal
 
 pub bounds-buf-at-2 : goal.bounds-buf-at-2

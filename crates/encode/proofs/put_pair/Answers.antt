@@ -2,7 +2,6 @@ use Rattle.encode.specs.Encoding.{word}
 use Rattle.text.proofs.Writes.{written_none, written-more, written-pair}
 use mathlib.Core.List.{List}
 use Prim.Native.Nat.{ℕ}
-use borrow.Author.Rules.{rules}
 use Rattle.encode.proofs.put_pair.Goals as goal
 
 pub returns : goal.returns

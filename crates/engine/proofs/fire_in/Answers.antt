@@ -1,4 +1,3 @@
-use borrow.Author.Rules.{rules}
 use Rattle.net.specs.Firing.{broken_bond}
 use Rattle.net.proofs.Written.{has_right}
 use Rattle.format.specs.Arcs.{arcs_in}

@@ -1,15 +1,13 @@
 use mathlib.Core.Path.{◌≡◌, sym, subst}
-use Prim.Native.Nat.{ℕ, ◌-◌, ◌≤◌}
+use Prim.Native.Nat.{ℕ, ◌-◌}
 use native.Mathlib.Omega.{arith}
 use lib.ListN.{drop}
-use borrow.Author.Rules.{rules}
 use Rattle.net.specs.Limits.{max_bases}
-use Rattle.net.specs.Tests.{table}
 use Rattle.net.specs.Sorted.{puts}
 use Rattle.net.specs.Net.{same_bond, less_bond}
 use Rattle.format.specs.Arcs.{arcs_in, out_count, nth_out_bond}
-use Rattle.labels.specs.Labelled.{Labelled, Within, Fits}
-use Rattle.engine.proofs.Labels.{Joins, joins-none, joins-turn}
+use Rattle.labels.specs.Labelled.{Labelled, Within}
+use Rattle.engine.proofs.Labels.{joins-none, joins-turn}
 use Rattle.engine.proofs.join_out_bonds.Goals as goal
 
 pub loop-rest-init : goal.loop-rest-init

@@ -1,15 +1,9 @@
-use mathlib.Core.Path.{◌≡◌, sym, subst}
-use Prim.Native.Nat.{ℕ, ◌-◌, ◌≤◌}
-use native.Mathlib.Omega.{arith}
+use Prim.Native.Nat.{◌≤◌}
 use lib.ListN.{drop}
-use borrow.Author.Rules.{rules}
-use Rattle.net.specs.Limits.{max_bases}
 use Rattle.net.specs.Tests.{table}
-use Rattle.net.specs.Sorted.{puts}
-use Rattle.net.specs.Net.{same_bond, less_bond}
-use Rattle.format.specs.Arcs.{arcs_in, out_count, nth_out_bond}
-use Rattle.labels.specs.Labelled.{Labelled, Within, Fits}
-use Rattle.engine.proofs.Labels.{Joins, joins-none, joins-turn}
+use Rattle.format.specs.Arcs.{out_count, nth_out_bond}
+use Rattle.labels.specs.Labelled.{Fits}
+use Rattle.engine.proofs.Labels.{Joins}
 use Rattle.engine.proofs.join_out_bonds.Given as goal
 
 abbrev pub invariant-loop-rest : goal.invariant-loop-rest

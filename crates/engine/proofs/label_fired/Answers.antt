@@ -1,5 +1,4 @@
 use mathlib.Core.Path.{sym}
-use borrow.Author.Rules.{rules}
 use Rattle.enabling.proofs.Keeping.{labelled-is}
 use Rattle.engine.proofs.label_fired.Goals as goal
 

@@ -1,15 +1,7 @@
-use mathlib.Core.Path.{◌≡◌}
-use Prim.Native.Nat.{◌≤◌}
 use native.Mathlib.Omega.{arith}
-use lib.ListN.{drop}
-use borrow.Author.Rules.{rules}
-use Rattle.net.specs.Net.{same_bond, less_bond}
-use Rattle.net.specs.Sorted.{puts}
-use Rattle.net.specs.Tests.{keep, table}
 use Rattle.format.specs.Arcs.{arcs_in}
 use Rattle.format.specs.Sides.{bond_count, nth_bond}
 use Rattle.marking.specs.declared.Marking.{Marking}
-use Rattle.marking.specs.Form.{bonds_of, with_bonds}
 use Rattle.marking.specs.Held.{holding_bonds}
 use Rattle.engine.specs.Change.{goes_in}
 use Rattle.engine.proofs.Adding.{held_none, held_all, add-asks, add-gives}

@@ -1,7 +1,6 @@
 -- an out-bond goes in
 use mathlib.Core.Path.{◌≡◌, refl, sym, ◌∙◌, ap}
 use mathlib.Core.Bool.{Bool, true, false, not, ◌||◌}
-use borrow.Author.Rules.{rules}
 use Rattle.net.specs.Net.{has_bond}
 use Rattle.format.specs.Arcs.{arcs_in}
 use Rattle.engine.specs.Change.{goes_in}

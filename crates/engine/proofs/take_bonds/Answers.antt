@@ -1,14 +1,9 @@
 use mathlib.Core.Path.{◌≡◌, ◌∙◌}
-use mathlib.Core.Bool.{not, ◌&&◌}
-use Prim.Native.Nat.{◌-◌, ◌≤◌}
+use mathlib.Core.Bool.{not}
 use native.Mathlib.Omega.{arith}
 use borrow.Author.Rules.{rules}
-use Rattle.net.specs.declared.Bond.{Bond}
-use Rattle.net.specs.Net.{has_bond}
-use Rattle.net.specs.Tests.{keep, table}
 use Rattle.format.specs.Sides.{bond_count, nth_bond, side_bonds}
 use Rattle.marking.specs.declared.Marking.{Marking}
-use Rattle.marking.specs.Form.{bonds_of, with_bonds}
 use Rattle.marking.specs.Held.{holding_bonds}
 use Rattle.engine.proofs.Removing.{left-all, take-asks, take_gives}
 use Rattle.engine.proofs.take_bonds.Goals as goal

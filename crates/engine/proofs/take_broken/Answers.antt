@@ -1,5 +1,4 @@
 use mathlib.Core.Path.{sym, ◌∙◌, ap}
-use borrow.Author.Rules.{rules}
 use Rattle.format.specs.Arcs.{arcs_in}
 use Rattle.bonds.specs.Ends.{bonds_in}
 use Rattle.marking.specs.Form.{with_bonds}

@@ -1,5 +1,4 @@
 use mathlib.Core.Path.{ap, sym, ◌∙◌}
-use borrow.Author.Rules.{rules}
 use mathlib.Core.Bool.{not}
 use Rattle.format.specs.Sides.{side_bonds}
 use Rattle.marking.specs.declared.Marking.{Marking}

@@ -1,4 +1,3 @@
-use borrow.Author.Rules.{rules}
 use Rattle.net.proofs.Written.{has_left}
 use Rattle.format.specs.Arcs.{arcs_in}
 use Rattle.marking.specs.declared.Marking.{Marking}

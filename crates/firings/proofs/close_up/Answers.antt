@@ -1,4 +1,3 @@
-use borrow.Author.Rules.{rules}
 use Prim.Native.Nat.{◌-◌}
 use Rattle.firings.specs.Lines.{lying}
 use Rattle.firings.proofs.close_up.Goals as goal

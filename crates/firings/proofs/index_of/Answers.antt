@@ -1,5 +1,3 @@
-use borrow.Author.Rules.{rules}
-use Prim.Native.Nat.{◌-◌}
 use Rattle.firings.proofs.Search.{all-lower, other_key, this_key}
 use Rattle.firings.proofs.index_of.Goals as goal
 

@@ -1,12 +1,7 @@
 use borrow.Author.Rules.{rules}
 use native.Mathlib.Omega.{arith}
-use mathlib.Core.Path.{◌≡◌, refl}
-use Prim.Native.Nat.{◌-◌, ◌≤◌}
-use mathlib.Core.Bool.{◌&&◌}
-use lib.ListN.{get_or, drop}
-use Rattle.net.specs.Limits.{max_live}
-use Rattle.firings.specs.Search.{keys_in}
-use Rattle.firings.specs.Form.{climbs}
+use mathlib.Core.Path.{refl}
+use lib.ListN.{get_or}
 use Rattle.firings.proofs.Loops.{climb-turn, climb-end}
 use Rattle.firings.proofs.keys_climb.Goals as goal
 

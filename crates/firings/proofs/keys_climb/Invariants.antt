@@ -1,13 +1,10 @@
-use borrow.Author.Rules.{rules}
-use native.Mathlib.Omega.{arith}
-use mathlib.Core.Path.{◌≡◌, refl}
+use mathlib.Core.Path.{◌≡◌}
 use Prim.Native.Nat.{◌-◌, ◌≤◌}
 use mathlib.Core.Bool.{◌&&◌}
-use lib.ListN.{get_or, drop}
+use lib.ListN.{drop}
 use Rattle.net.specs.Limits.{max_live}
 use Rattle.firings.specs.Search.{keys_in}
 use Rattle.firings.specs.Form.{climbs}
-use Rattle.firings.proofs.Loops.{climb-turn, climb-end}
 use Rattle.firings.proofs.keys_climb.Given as goal
 
 abbrev pub invariant-loop-i : goal.invariant-loop-i

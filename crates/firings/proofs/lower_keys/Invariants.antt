@@ -1,12 +1,8 @@
-use borrow.Author.Rules.{rules}
-use native.Mathlib.Omega.{arith}
-use mathlib.Core.Path.{◌≡◌, refl, sym, ap, ◌∙◌}
-use Prim.Native.Nat.{ℕ, ◌-◌, ◌≤◌}
+use mathlib.Core.Path.{◌≡◌}
+use Prim.Native.Nat.{◌-◌, ◌≤◌}
 use lib.Dec.{ltb}
-use lib.ListN.{get_or}
 use Rattle.net.specs.Limits.{max_live}
 use Rattle.net.specs.Tests.{count}
-use Rattle.bonds.proofs.Fill.{count-more}
 use Rattle.firings.specs.Search.{keys_in}
 use Rattle.firings.proofs.lower_keys.Given as goal
 

@@ -1,11 +1,8 @@
-use borrow.Author.Rules.{rules}
-use mathlib.Core.Path.{◌≡◌, refl, sym, ◌∙◌}
-use Prim.Native.Nat.{ℕ, ◌-◌}
+use mathlib.Core.Path.{◌≡◌}
+use Prim.Native.Nat.{◌-◌}
 use mathlib.Core.Bool.{◌&&◌}
-use lib.Dec.{eqb}
 use lib.ListN.{length}
 use Rattle.marking.specs.Form.{zero_from}
-use Rattle.marking_form.proofs.Zeros.{rest-turn, rest_end}
 use Rattle.firings.proofs.zero_words.Given as goal
 
 abbrev pub invariant-loop-i : goal.invariant-loop-i

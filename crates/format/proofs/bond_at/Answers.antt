@@ -1,4 +1,3 @@
-use borrow.Author.Rules.{rules}
 use Rattle.format.proofs.bond_at.Goals as goal
 
 pub returns : goal.returns

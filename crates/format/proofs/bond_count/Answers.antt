@@ -1,5 +1,4 @@
 use mathlib.Core.Path.{◌∙◌}
-use borrow.Author.Rules.{rules}
 use Rattle.format.proofs.bond_count.Goals as goal
 
 pub returns-then-out : goal.returns-then-out

@@ -1,4 +1,3 @@
-use borrow.Author.Rules.{rules}
 use Rattle.format.proofs.start_bond_count.Goals as goal
 
 pub returns : goal.returns

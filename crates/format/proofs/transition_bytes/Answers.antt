@@ -1,6 +1,5 @@
 use mathlib.Core.Path.{◌∙◌}
 use Rattle.format.proofs.Parts.{on-sheet, not-on-sheet}
-use borrow.Author.Rules.{rules}
 use Rattle.format.proofs.transition_bytes.Goals as goal
 
 pub returns-then-t-count : goal.returns-then-t-count

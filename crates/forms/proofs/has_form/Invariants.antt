@@ -1,10 +1,6 @@
-use borrow.Author.Tests.{not-true, not-false}
 use Rattle.forms.specs.Forms.{fits}
 use Rattle.lexing.specs.Tokens.{row}
-use Rattle.forms.proofs.Rows.{form-over, line-over, not-suited, suited}
-use borrow.Author.Rules.{rules}
-use native.Mathlib.Omega.{arith}
-use mathlib.Core.Path.{◌≡◌, sym, ◌∙◌}
+use mathlib.Core.Path.{◌≡◌}
 use Prim.Native.Nat.{◌≤◌}
 use lib.ListN.{length, drop}
 use Rattle.forms.proofs.has_form.Given as goal

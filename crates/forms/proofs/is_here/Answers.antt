@@ -1,5 +1,4 @@
 use mathlib.Core.Bool.{true, false}
-use borrow.Author.Tests.{not-true, not-false}
 use mathlib.Core.Path.{◌≡◌}
 use Rattle.forms.proofs.is_here.Goals as goal
 

@@ -1,13 +1,10 @@
 use mathlib.Core.Bool.{Bool, ◌&&◌}
 use lib.Dec.{eqb}
-use Rattle.forms.specs.Forms.{numbers}
-use Rattle.lexing.specs.Tokens.{row}
 use Rattle.forms.proofs.Rows.{number-none, number-here, number-later}
 use borrow.Author.Rules.{rules}
 use native.Mathlib.Omega.{arith}
 use mathlib.Core.Path.{◌≡◌, ap, sym, ◌∙◌}
-use Prim.Native.Nat.{◌≤◌}
-use lib.ListN.{length, get_or, drop}
+use lib.ListN.{drop}
 use Rattle.forms.proofs.nth_number.Goals as goal
 use Rattle.forms.proofs.nth_number.Goals.{At-loop-left}
 

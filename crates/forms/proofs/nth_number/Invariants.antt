@@ -1,11 +1,6 @@
-use mathlib.Core.Bool.{Bool, ◌&&◌}
-use lib.Dec.{eqb}
 use Rattle.forms.specs.Forms.{numbers}
 use Rattle.lexing.specs.Tokens.{row}
-use Rattle.forms.proofs.Rows.{number-none, number-here, number-later}
-use borrow.Author.Rules.{rules}
-use native.Mathlib.Omega.{arith}
-use mathlib.Core.Path.{◌≡◌, ap, sym, ◌∙◌}
+use mathlib.Core.Path.{◌≡◌}
 use Prim.Native.Nat.{◌≤◌}
 use lib.ListN.{length, get_or, drop}
 use Rattle.forms.proofs.nth_number.Given as goal

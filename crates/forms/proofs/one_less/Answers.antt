@@ -1,7 +1,5 @@
 use mathlib.Core.Bool.{true, false}
-use borrow.Author.Tests.{not-true, not-false}
 use mathlib.Core.Path.{◌≡◌}
-use borrow.Author.Rules.{rules}
 use Rattle.forms.proofs.one_less.Goals as goal
 
 pub returns-then-not-counted : goal.returns-then-not-counted

@@ -1,12 +1,7 @@
-use lib.Dec.{eqb}
-use lib.Seq.{slice}
-use Rattle.net.specs.Tests.{same_list}
 use Rattle.forms.proofs.Words.{same-short, same-differ, same-on, same_end}
 use borrow.Author.Rules.{rules}
 use native.Mathlib.Omega.{arith}
-use mathlib.Core.Path.{◌≡◌, ◌∙◌}
-use Prim.Native.Nat.{◌-◌, ◌≤◌}
-use lib.ListN.{length}
+use mathlib.Core.Path.{◌∙◌}
 use Rattle.forms.proofs.same_word.Goals as goal
 
 pub returns-then-stop-j : goal.returns-then-stop-j

@@ -1,6 +1,5 @@
 use Rattle.forms.proofs.Rows.{number-token}
 use mathlib.Core.Path.{◌∙◌}
-use borrow.Author.Rules.{rules}
 use Rattle.forms.proofs.suits.Goals as goal
 
 pub returns-in-Word : goal.returns-in-Word

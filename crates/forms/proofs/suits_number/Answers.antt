@@ -1,4 +1,3 @@
-use borrow.Author.Rules.{rules}
 use Rattle.forms.proofs.suits_number.Goals as goal
 
 pub returns-in-Number : goal.returns-in-Number

@@ -1,5 +1,4 @@
 use mathlib.Core.Path.{◌∙◌}
-use borrow.Author.Rules.{rules}
 use Rattle.forms.proofs.suits_word.Goals as goal
 
 pub returns-in-Word : goal.returns-in-Word

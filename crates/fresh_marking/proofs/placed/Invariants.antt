@@ -1,15 +1,9 @@
-use mathlib.Core.Path.{◌≡◌, refl, ap, ◌∙◌}
+use mathlib.Core.Path.{◌≡◌}
 use mathlib.Core.List.{◌++◌}
 use Prim.Native.Nat.{◌-◌, ◌≤◌}
-use native.Mathlib.Omega.{arith}
 use lib.ListN.{replicate, length, get_or, drop}
-use borrow.Author.Rules.{rules}
 use Rattle.net.specs.Limits.{max_bases}
-use Rattle.net.proofs.Tables.{table-list}
 use Rattle.net.specs.Tests.{table}
-use Rattle.bonds.proofs.Fill.{fill-turn}
-use Rattle.marking.proofs.Padding.{fill-padded}
-use Rattle.marking.specs.Form.{padded}
 use Rattle.fresh_marking.proofs.placed.Given as goal
 
 abbrev pub invariant-loop-i : goal.invariant-loop-i

@@ -1,16 +1,10 @@
-use mathlib.Core.Path.{◌≡◌, refl, ap, sym, ◌∙◌}
+use mathlib.Core.Path.{◌≡◌}
 use mathlib.Core.List.{◌++◌}
 use Prim.Native.Nat.{◌-◌, ◌≤◌}
-use native.Mathlib.Omega.{arith}
 use lib.ListN.{replicate, length, drop}
-use borrow.Author.Rules.{rules}
 use Rattle.net.specs.Limits.{max_bonds}
-use Rattle.net.specs.declared.Bond.{Bond}
 use Rattle.net.specs.Tests.{table}
 use Rattle.format.specs.NetOf.{start_bond_count, nth_start_bond}
-use Rattle.bonds.proofs.Fill.{fill-turn, map-table}
-use Rattle.marking.proofs.Padding.{fill-padded}
-use Rattle.marking.specs.Form.{padded}
 use Rattle.fresh_marking.proofs.start_ends.Given as goal
 
 abbrev pub invariant-loop-i : goal.invariant-loop-i

@@ -1,5 +1,4 @@
 use mathlib.Core.Path.{ap, sym, ◌∙◌}
-use borrow.Author.Rules.{rules}
 use Rattle.net.proofs.Tables.{length-table}
 use Rattle.net.specs.Limits.{max_bases}
 use Rattle.format.specs.NetOf.{start_bond_count, nth_start_bond}

@@ -1,15 +1,11 @@
-use mathlib.Core.Path.{◌≡◌, sym, ◌∙◌, ap, subst}
-use Prim.Native.Nat.{ℕ, ◌-◌, ◌<◌, ◌≤◌}
-use native.Mathlib.Omega.{arith}
-use borrow.Author.Rules.{rules}
+use mathlib.Core.Path.{◌≡◌}
+use Prim.Native.Nat.{◌-◌, ◌≤◌}
 use Rattle.net.specs.Limits.{max_bases}
 use Rattle.net.specs.Tests.{table}
-use Rattle.net.specs.declared.Entry.{Entry}
-use Rattle.format.specs.Arcs.{arcs_in, entry_count, nth_entry}
+use Rattle.format.specs.Arcs.{entry_count, nth_entry}
 use Rattle.words.specs.Sets.{set_of}
-use Rattle.words.proofs.Bits.{no-bases}
 use Rattle.labels.specs.Labelled.{label_in}
-use Rattle.groups.proofs.Moving.{moves_by, moves-turn, moves-parted, table-each}
+use Rattle.groups.proofs.Moving.{moves_by}
 use Rattle.groups.proofs.moved_word.Given as goal
 
 abbrev pub invariant-loop-i : goal.invariant-loop-i

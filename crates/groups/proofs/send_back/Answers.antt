@@ -1,14 +1,11 @@
 -- the base is in the set
 use mathlib.Core.Path.{◌≡◌, refl, sym, ◌∙◌, ap, subst}
-use mathlib.Core.Bool.{Bool, true, false}
-use Prim.Native.Nat.{ℕ, ◌-◌, ◌<◌, ◌≤◌}
+use mathlib.Core.Bool.{true}
+use Prim.Native.Nat.{◌-◌, ◌<◌}
 use native.Mathlib.Omega.{arith}
-use lib.ListN.{get_or}
-use borrow.Author.Rules.{rules}
 use Rattle.net.specs.Limits.{max_bases}
 use Rattle.net.specs.declared.Entry.{Entry}
 use Rattle.format.specs.Arcs.{entry_count, nth_entry}
-use Rattle.words.specs.Sets.{set_of}
 use Rattle.labels.specs.Labelled.{label_in}
 use Rattle.groups.specs.Groups.{side}
 use Rattle.groups.proofs.Sending.{sentFrom, sent-none, sent-turn, sent-length}

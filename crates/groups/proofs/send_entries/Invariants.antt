@@ -1,14 +1,11 @@
-use mathlib.Core.Path.{◌≡◌, refl, sym, ◌∙◌, ap, subst}
+use mathlib.Core.Path.{◌≡◌}
 use mathlib.Core.Bool.{true, false}
-use Prim.Native.Nat.{◌-◌, ◌<◌, ◌≤◌}
-use native.Mathlib.Omega.{arith}
-use borrow.Author.Rules.{rules}
+use Prim.Native.Nat.{◌≤◌}
 use Rattle.net.specs.Limits.{max_bases}
-use Rattle.net.specs.declared.Entry.{Entry}
 use Rattle.format.specs.Arcs.{entry_count, nth_entry}
 use Rattle.labels.specs.Labelled.{label_in}
 use Rattle.groups.specs.Groups.{side}
-use Rattle.groups.proofs.Sending.{sentFrom, sent-none, sent-turn, sent-length}
+use Rattle.groups.proofs.Sending.{sentFrom}
 use Rattle.groups.proofs.send_entries.Given as goal
 
 abbrev pub invariant-loop-left : goal.invariant-loop-left

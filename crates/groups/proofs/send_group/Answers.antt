@@ -1,12 +1,12 @@
-use mathlib.Core.Path.{◌≡◌, refl, ap, ◌∙◌}
-use mathlib.Core.List.{List, ◌++◌}
-use Prim.Native.Nat.{ℕ, ◌-◌, ◌≤◌}
+use mathlib.Core.Path.{refl, ap, ◌∙◌}
+use mathlib.Core.List.{List}
+use Prim.Native.Nat.{ℕ}
 use native.Mathlib.Omega.{arith}
-use lib.ListN.{length, get_or, drop}
+use lib.ListN.{get_or}
 use lib.Dec.{eqb}
 use borrow.Author.Rules.{rules}
 use Rattle.net.specs.Limits.{max_bases}
-use Rattle.net.specs.Tests.{pick, table}
+use Rattle.net.specs.Tests.{pick}
 use Rattle.bonds.proofs.Fill.{fill-turn, fill_end}
 use Rattle.bonds.proofs.InPlace.{read-ahead}
 use Rattle.labels.specs.Labelled.{label_in}

@@ -1,14 +1,10 @@
-use mathlib.Core.Path.{◌≡◌, refl, ◌∙◌}
-use mathlib.Core.List.{List, ◌++◌}
-use Prim.Native.Nat.{ℕ, ◌-◌, ◌<◌, ◌≤◌}
-use native.Mathlib.Omega.{arith}
-use lib.ListN.{length, get_or, drop, length-set}
-use borrow.Author.Rules.{rules}
+use mathlib.Core.Path.{◌≡◌}
+use mathlib.Core.List.{◌++◌}
+use Prim.Native.Nat.{ℕ, ◌-◌, ◌≤◌}
+use lib.ListN.{length, drop}
 use Rattle.net.specs.Limits.{max_bases}
 use Rattle.net.specs.Tests.{table}
-use Rattle.bonds.proofs.Fill.{fill-turn, fill_end}
 use Rattle.labels.specs.Forest.{Down, Forest}
-use Rattle.labels.proofs.Trees.{spans-down-kept, flat-turn, flat-parted}
 use Rattle.labels.proofs.flatten.Given as goal
 
 abbrev pub invariant-loop-p : goal.invariant-loop-p

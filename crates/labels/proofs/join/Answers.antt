@@ -1,7 +1,6 @@
 -- both ends' labels are below the limit
 use Prim.Native.Nat.{◌<◌}
 use native.Mathlib.Omega.{arith}
-use borrow.Author.Rules.{rules}
 use Rattle.net.specs.Limits.{max_bases}
 use Rattle.labels.specs.Labelled.{label_in}
 use Rattle.labels.proofs.Members.{labelled-join, labelled-stay, fits-join}

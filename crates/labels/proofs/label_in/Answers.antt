@@ -1,4 +1,3 @@
-use borrow.Author.Rules.{rules}
 use Rattle.labels.proofs.label_in.Goals as goal
 
 pub returns : goal.returns

@@ -1,12 +1,9 @@
-use mathlib.Core.Path.{◌≡◌, refl}
+use mathlib.Core.Path.{◌≡◌}
 use mathlib.Core.List.{◌++◌}
 use Prim.Native.Nat.{◌-◌, ◌≤◌}
-use native.Mathlib.Omega.{arith}
 use lib.ListN.{length, drop}
-use borrow.Author.Rules.{rules}
 use Rattle.net.specs.Limits.{max_bases}
 use Rattle.net.specs.Tests.{table}
-use Rattle.bonds.proofs.Fill.{fill-turn, fill_end}
 use Rattle.labels.proofs.own_in.Given as goal
 
 abbrev pub invariant-loop-p : goal.invariant-loop-p

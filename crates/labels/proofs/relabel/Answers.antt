@@ -1,4 +1,3 @@
-use borrow.Author.Rules.{rules}
 use Rattle.labels.proofs.relabel.Goals as goal
 
 pub returns : goal.returns

@@ -1,10 +1,6 @@
-use mathlib.Core.Path.{◌≡◌, refl, ap, ◌∙◌}
-use Prim.Native.Nat.{ℕ, ◌<◌, ◌≤◌}
+use mathlib.Core.Path.{refl, ap, ◌∙◌}
 use native.Mathlib.Omega.{arith}
-use lib.ListN.{get_or}
 use borrow.Author.Rules.{rules}
-use Rattle.net.specs.Limits.{max_bases}
-use Rattle.labels.specs.Forest.{Forest}
 use Rattle.labels.proofs.root.Goals as goal
 
 pub loop-up-init : goal.loop-up-init

@@ -1,8 +1,6 @@
-use mathlib.Core.Path.{◌≡◌, refl, ap, ◌∙◌}
+use mathlib.Core.Path.{◌≡◌}
 use Prim.Native.Nat.{ℕ, ◌<◌, ◌≤◌}
-use native.Mathlib.Omega.{arith}
 use lib.ListN.{get_or}
-use borrow.Author.Rules.{rules}
 use Rattle.net.specs.Limits.{max_bases}
 use Rattle.labels.specs.Forest.{Forest}
 use Rattle.labels.proofs.root.Given as goal

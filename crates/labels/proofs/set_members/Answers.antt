@@ -1,12 +1,12 @@
-use mathlib.Core.Path.{◌≡◌, refl, ◌∙◌}
+use mathlib.Core.Path.{refl, ◌∙◌}
 use mathlib.Core.List.{List}
-use Prim.Native.Nat.{ℕ, ◌-◌, ◌<◌, ◌≤◌}
+use Prim.Native.Nat.{ℕ, ◌<◌}
 use native.Mathlib.Omega.{arith}
-use lib.ListN.{length, length-set}
+use lib.ListN.{length-set}
 use borrow.Author.Rules.{rules}
 use Rattle.net.specs.Limits.{max_bases}
 use Rattle.labels.specs.Labelled.{label_in}
-use Rattle.labels.proofs.Gathering.{Gathered, gather_none, gather-turn, gather-end}
+use Rattle.labels.proofs.Gathering.{gather_none, gather-turn, gather-end}
 use Rattle.labels.proofs.set_members.Goals as goal
 
 pub loop-p-init : goal.loop-p-init

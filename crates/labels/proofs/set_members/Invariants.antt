@@ -1,12 +1,8 @@
-use mathlib.Core.Path.{◌≡◌, refl, ◌∙◌}
-use mathlib.Core.List.{List}
-use Prim.Native.Nat.{ℕ, ◌-◌, ◌<◌, ◌≤◌}
-use native.Mathlib.Omega.{arith}
-use lib.ListN.{length, length-set}
-use borrow.Author.Rules.{rules}
+use mathlib.Core.Path.{◌≡◌}
+use Prim.Native.Nat.{◌-◌, ◌≤◌}
+use lib.ListN.{length}
 use Rattle.net.specs.Limits.{max_bases}
-use Rattle.labels.specs.Labelled.{label_in}
-use Rattle.labels.proofs.Gathering.{Gathered, gather_none, gather-turn, gather-end}
+use Rattle.labels.proofs.Gathering.{Gathered}
 use Rattle.labels.proofs.set_members.Given as goal
 
 abbrev pub invariant-loop-p : goal.invariant-loop-p

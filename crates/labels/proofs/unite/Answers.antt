@@ -2,7 +2,6 @@ use mathlib.Core.Path.{◌≡◌, ap, sym, ◌∙◌}
 use mathlib.Core.List.{List}
 use Prim.Native.Nat.{ℕ, ◌<◌}
 use native.Mathlib.Omega.{arith}
-use borrow.Author.Rules.{rules}
 use Rattle.net.specs.Limits.{max_bases}
 use Rattle.labels.proofs.Trees.{spans-up, spans-down, spans-stay}
 use Rattle.labels.proofs.Roots.{roots_less}

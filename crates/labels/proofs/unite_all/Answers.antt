@@ -6,7 +6,7 @@ use Rattle.net.specs.Limits.{max_bases}
 use Rattle.net.specs.Tests.{table}
 use Rattle.net.specs.declared.Bond.{Bond}
 use Rattle.bonds.specs.Ends.{ends, bonds_in}
-use Rattle.labels.specs.Forest.{Spans, roots_below}
+use Rattle.labels.specs.Forest.{Spans}
 use Rattle.labels.proofs.Trees.{spans-own, spans-more}
 use Rattle.labels.proofs.Roots.{roots-own, spans-rest}
 use Rattle.labels.proofs.unite_all.Goals as goal

@@ -1,5 +1,4 @@
 use mathlib.Core.Path.{◌∙◌}
-use borrow.Author.Rules.{rules}
 use Rattle.lamps.proofs.Flags.{lamp-found, lamp-dead}
 use Rattle.lamps.proofs.is_lit.Goals as goal
 

@@ -1,5 +1,4 @@
 use mathlib.Core.Path.{◌∙◌}
-use borrow.Author.Rules.{rules}
 use Rattle.lamps.proofs.Flags.{flag-live, flag-after}
 use Rattle.lamps.proofs.lit_at.Goals as goal
 

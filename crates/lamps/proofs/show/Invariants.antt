@@ -1,18 +1,14 @@
-use borrow.Author.Rules.{rules}
-use native.Mathlib.Omega.{arith}
-use mathlib.Core.Path.{◌≡◌, refl}
+use mathlib.Core.Path.{◌≡◌}
 use Prim.Native.Nat.{ℕ, ◌-◌, ◌≤◌}
 use lib.ListN.{length, drop}
 use mathlib.Core.List.{List, ◌++◌}
-use mathlib.Core.Bool.{Bool, true, false}
-use lib.ListN.{length-replicate}
-use Rattle.bonds.proofs.Fill.{fill_end, fill-turn}
+use mathlib.Core.Bool.{true}
 use Rattle.net.specs.Limits.{max_live}
 use Rattle.net.specs.Tests.{table}
 use Rattle.firings.specs.Search.{keys_in}
 use Rattle.firings.specs.Form.{climbs}
 use Rattle.lamps.specs.Lamps.{flag_at}
-use Rattle.lamps.proofs.Flags.{lines, all_shown}
+use Rattle.lamps.proofs.Flags.{lines}
 use Rattle.lamps.proofs.show.Given as goal
 
 abbrev pub invariant-loop-i : goal.invariant-loop-i

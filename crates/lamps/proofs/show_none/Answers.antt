@@ -1,5 +1,4 @@
 use mathlib.Core.Path.{refl}
-use Prim.Native.Nat.{◌+◌, ◌-◌}
 use Rattle.lamps.specs.Lamps.{not_shown}
 use Rattle.lamps.proofs.show_none.Goals as goal
 

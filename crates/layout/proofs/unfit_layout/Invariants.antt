@@ -1,14 +1,11 @@
 -- what is known after the first i bytes
-use borrow.Author.Rules.{rules}
-use native.Mathlib.Omega.{arith}
-use mathlib.Core.Path.{◌≡◌, ap, sym, ◌∙◌}
-use mathlib.Core.Bool.{Bool, not, ◌||◌, or-false, or_assoc}
+use mathlib.Core.Path.{◌≡◌}
+use mathlib.Core.Bool.{Bool, not, ◌||◌}
 use mathlib.Core.List.{List}
 use Prim.Native.Nat.{ℕ, ◌-◌, ◌≤◌}
 use lib.Dec.{eqb}
 use lib.ListN.{length, get_or}
 use Rattle.net.specs.Tests.{any, table}
-use Rattle.net.proofs.Tables.{any-more, table-list}
 use Rattle.layout.specs.Layout.{no_such_place}
 use Rattle.layout.proofs.unfit_layout.Given as goal
 

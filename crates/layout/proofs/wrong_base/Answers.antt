@@ -1,11 +1,6 @@
 use borrow.Author.Rules.{rules}
 use native.Mathlib.Omega.{arith}
 use mathlib.Core.Path.{◌≡◌, refl, sym, ◌∙◌}
-use mathlib.Core.Bool.{false}
-use Prim.Native.Nat.{◌-◌, ◌≤◌}
-use lib.ListN.{length}
-use Rattle.net.specs.Limits.{max_bases}
-use Rattle.net.specs.Tests.{any, table}
 use Rattle.net.proofs.Tables.{any-more}
 use Rattle.net.proofs.Firsts.{first-here, first-none}
 use Rattle.layout.specs.Layout.{astray}

@@ -1,6 +1,5 @@
 use Rattle.lexing.proofs.Scans.{begins-end, begins-word, begins-number, begins-line, begins-comment, begins-wrong}
 use mathlib.Core.Path.{sym, ◌∙◌}
-use borrow.Author.Rules.{rules}
 use Rattle.lexing.proofs.begun_at.Goals as goal
 
 pub returns-then-text-from : goal.returns-then-text-from

@@ -1,5 +1,4 @@
 use Rattle.lexing.proofs.Scans.{end-stands, line-stands}
-use borrow.Author.Rules.{rules}
 use Rattle.lexing.proofs.comment_at.Goals as goal
 
 pub returns-then-text-stop : goal.returns-then-text-stop

@@ -1,6 +1,5 @@
 use Rattle.lexing.proofs.Scans.{digit-none, digit-here}
 use mathlib.Core.Path.{sym, ◌∙◌}
-use borrow.Author.Rules.{rules}
 use Rattle.lexing.proofs.digit_at.Goals as goal
 
 pub returns-then-text-at : goal.returns-then-text-at

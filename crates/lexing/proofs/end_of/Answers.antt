@@ -1,12 +1,8 @@
 use borrow.Author.Rules.{rules}
 use native.Mathlib.Omega.{arith}
-use mathlib.Core.Path.{◌≡◌, sym, ◌∙◌}
-use Prim.Native.Nat.{◌-◌, ◌≤◌}
-use borrow.Author.Tests.{not-true, not-false}
-use Rattle.lexing.specs.Tokens.{past}
+use mathlib.Core.Path.{sym, ◌∙◌}
 use Rattle.lexing.specs.Found.{passes}
 use Rattle.lexing.proofs.Scans.{past-here, past-on, past_end}
-use lib.ListN.{length, drop}
 use Rattle.lexing.proofs.end_of.Goals as goal
 
 pub returns-then-not-passed : goal.returns-then-not-passed

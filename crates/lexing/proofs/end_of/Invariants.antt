@@ -1,11 +1,7 @@
-use borrow.Author.Rules.{rules}
-use native.Mathlib.Omega.{arith}
-use mathlib.Core.Path.{◌≡◌, sym, ◌∙◌}
+use mathlib.Core.Path.{◌≡◌}
 use Prim.Native.Nat.{◌-◌, ◌≤◌}
-use borrow.Author.Tests.{not-true, not-false}
 use Rattle.lexing.specs.Tokens.{past}
 use Rattle.lexing.specs.Found.{passes}
-use Rattle.lexing.proofs.Scans.{past-here, past-on, past_end}
 use lib.ListN.{length, drop}
 use Rattle.lexing.proofs.end_of.Given as goal
 

@@ -1,7 +1,6 @@
 use Rattle.lexing.proofs.Scans.{ends-none, ends-here}
 use borrow.Author.Tests.{le-leb, lt-leb}
 use mathlib.Core.Path.{sym, ◌∙◌}
-use borrow.Author.Rules.{rules}
 use Rattle.lexing.proofs.ends_at.Goals as goal
 
 pub returns-then-text-at : goal.returns-then-text-at

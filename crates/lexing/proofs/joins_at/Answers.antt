@@ -1,7 +1,6 @@
 use Rattle.lexing.proofs.Scans.{joins-none, joins-here}
 use borrow.Author.Tests.{eq-eqb, ne_eqb}
 use mathlib.Core.Path.{sym, ◌∙◌}
-use borrow.Author.Rules.{rules}
 use Rattle.lexing.proofs.joins_at.Goals as goal
 
 pub returns-then-text-at : goal.returns-then-text-at

@@ -1,5 +1,4 @@
 use Rattle.lexing.specs.Tokens.{next_of}
-use borrow.Author.Rules.{rules}
 use Rattle.lexing.proofs.next.Goals as goal
 
 pub returns : goal.returns

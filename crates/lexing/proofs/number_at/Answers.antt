@@ -1,6 +1,5 @@
 use Rattle.lexing.proofs.Scans.{number-stands, number-joins, number-wrong}
 use mathlib.Core.Path.{sym, ◌∙◌}
-use borrow.Author.Rules.{rules}
 use Rattle.lexing.proofs.number_at.Goals as goal
 
 pub returns-then-done : goal.returns-then-done

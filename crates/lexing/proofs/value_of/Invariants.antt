@@ -1,11 +1,8 @@
-use borrow.Author.Rules.{rules}
-use native.Mathlib.Omega.{arith}
-use mathlib.Core.Path.{◌≡◌, ◌∙◌}
+use mathlib.Core.Path.{◌≡◌}
 use Prim.Native.Nat.{◌-◌, ◌≤◌}
 use mathlib.Core.List.{foldl}
 use lib.Seq.{slice}
 use Rattle.lexing.specs.Tokens.{more, value, too_much}
-use Rattle.lexing.proofs.Scans.{value_on, value-end}
 use lib.ListN.{length}
 use Rattle.lexing.proofs.value_of.Given as goal
 

@@ -1,7 +1,5 @@
 use Rattle.lexing.proofs.Scans.{word_stands, word-wrong}
-use borrow.Author.Tests.{not-true, not-false}
 use mathlib.Core.Path.{sym, ◌∙◌}
-use borrow.Author.Rules.{rules}
 use Rattle.lexing.proofs.word_at.Goals as goal
 
 pub returns-then-not-done : goal.returns-then-not-done

@@ -1,18 +1,12 @@
-use borrow.Author.Rules.{rules}
-use native.Mathlib.Omega.{arith}
-use mathlib.Core.Path.{◌≡◌, refl, sym, ◌∙◌, ap}
-use mathlib.Core.List.{List, ◌++◌}
-use Prim.Native.Nat.{ℕ, suc, ◌+◌, ◌-◌, ◌≤◌}
-use lib.ListN.{length, drop, replicate, length-replicate}
-use Rattle.net.specs.Limits.{max_bases, max_live}
+use mathlib.Core.Path.{◌≡◌}
+use mathlib.Core.List.{◌++◌}
+use Prim.Native.Nat.{◌-◌, ◌≤◌}
+use lib.ListN.{length, drop}
+use Rattle.net.specs.Limits.{max_live}
 use Rattle.net.specs.Tests.{table}
-use Rattle.net.specs.Journal.{LiveLine, transition}
-use Rattle.net.specs.declared.Transition.{Transition}
-use Rattle.bonds.proofs.Fill.{fill-turn}
-use Rattle.firings.specs.Lines.{lying}
-use Rattle.firings.proofs.Lines.{lines, lines-length}
+use Rattle.net.specs.Journal.{transition}
+use Rattle.firings.proofs.Lines.{lines}
 use Rattle.listing.specs.First.{step_at, ordered}
-use Rattle.listing.proofs.Filling.{here, after, filled}
 use Rattle.listing.proofs.list_steps.Given as goal
 
 abbrev pub invariant-loop-n : goal.invariant-loop-n

@@ -1,17 +1,13 @@
 use borrow.Author.Rules.{rules}
 use native.Mathlib.Omega.{arith}
-use mathlib.Core.Path.{◌≡◌, refl, sym, ◌∙◌, ap}
+use mathlib.Core.Path.{◌≡◌, refl, ◌∙◌, ap}
 use mathlib.Core.Bool.{Bool, not, ◌&&◌}
-use mathlib.Core.List.{List}
-use Prim.Native.Nat.{ℕ, ◌+◌, ◌-◌, ◌<◌, ◌≤◌}
 use lib.Dec.{ltb}
 use lib.ListN.{get_or}
-use Rattle.net.specs.Limits.{max_bases, max_live}
+use Rattle.net.specs.Limits.{max_bases}
 use Rattle.net.specs.Tests.{pick}
 use Rattle.net.specs.Journal.{common}
 use Rattle.words.specs.Sets.{set_of}
-use Rattle.firings.proofs.Lines.{lines}
-use Rattle.listing.specs.First.{seen_to, least_to}
 use Rattle.listing.proofs.Arrays.{seen_one, seen_more, least_more, next-is, better-low}
 use Rattle.listing.proofs.next_at.Goals as goal
 

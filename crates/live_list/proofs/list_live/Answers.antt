@@ -1,4 +1,3 @@
-use borrow.Author.Rules.{rules}
 use Rattle.live_list.proofs.list_live.Goals as goal
 
 pub returns : goal.returns

@@ -1,14 +1,11 @@
 use borrow.Author.Rules.{rules}
 use native.Mathlib.Omega.{arith}
-use mathlib.Core.Path.{◌≡◌, refl}
-use mathlib.Core.List.{◌++◌}
-use Prim.Native.Nat.{◌-◌, ◌≤◌}
-use lib.ListN.{drop, length, length-replicate}
+use mathlib.Core.Path.{refl}
+use lib.ListN.{length-replicate}
 use Rattle.bonds.proofs.Fill.{fill_end, fill-turn}
 use Rattle.firings.specs.Lines.{lying}
 use Rattle.live_list.specs.List.{live_at, no_firing}
 use Rattle.net.specs.Limits.{max_live}
-use Rattle.net.specs.Tests.{table}
 use Rattle.live_list.proofs.list_of.Goals as goal
 
 pub loop-i-init : goal.loop-i-init

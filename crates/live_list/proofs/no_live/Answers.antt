@@ -1,4 +1,3 @@
-use borrow.Author.Rules.{rules}
 use Rattle.live_list.specs.List.{not_listed}
 use Rattle.live_list.proofs.no_live.Goals as goal
 

@@ -1,14 +1,9 @@
-use mathlib.Core.Path.{◌≡◌, refl, ap, sym, ◌∙◌}
-use mathlib.Core.List.{List, ◌++◌}
-use Prim.Native.Nat.{ℕ, ◌+◌, ◌-◌, ◌<◌, ◌≤◌}
-use native.Mathlib.Omega.{arith}
+use mathlib.Core.Path.{◌≡◌}
+use mathlib.Core.List.{◌++◌}
+use Prim.Native.Nat.{◌+◌, ◌-◌, ◌<◌, ◌≤◌}
 use lib.ListN.{length, get_or, drop}
-use borrow.Author.Rules.{rules}
 use Rattle.net.specs.Tests.{table}
-use Rattle.bonds.proofs.Fill.{fill-turn}
-use Rattle.bonds.proofs.InPlace.{fill_start, read-ahead}
 use Rattle.marking.specs.Shift.{slot}
-use Rattle.marking.proofs.Shifts.{slot-below, slot_at, slot-above}
 use Rattle.marking.proofs.insert.Given as goal
 
 abbrev pub invariant-loop-j : goal.invariant-loop-j

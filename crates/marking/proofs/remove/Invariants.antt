@@ -1,14 +1,9 @@
-use mathlib.Core.Path.{◌≡◌, ap, sym, ◌∙◌}
-use mathlib.Core.List.{List, ◌++◌}
-use Prim.Native.Nat.{ℕ, suc, ◌+◌, ◌-◌, ◌<◌, ◌≤◌}
-use native.Mathlib.Omega.{arith}
+use mathlib.Core.Path.{◌≡◌}
+use mathlib.Core.List.{◌++◌}
+use Prim.Native.Nat.{◌+◌, ◌-◌, ◌≤◌}
 use lib.ListN.{length, get_or, drop}
-use borrow.Author.Rules.{rules}
 use Rattle.net.specs.Tests.{table}
-use Rattle.bonds.proofs.Fill.{fill-turn}
-use Rattle.bonds.proofs.InPlace.{fill_start, read-ahead, fill-last}
 use Rattle.marking.specs.Shift.{gap}
-use Rattle.marking.proofs.Shifts.{gap_below, gap_from}
 use Rattle.marking.proofs.remove.Given as goal
 
 abbrev pub invariant-loop-j : goal.invariant-loop-j

@@ -4,7 +4,6 @@ use mathlib.Core.Bool.{true}
 use Prim.Native.Nat.{◌<◌}
 use native.Mathlib.Omega.{arith}
 use borrow.Author.Rules.{rules}
-use borrow.Author.Tests.{not-true, not-false}
 use Rattle.net.specs.Net.{has_bond, same_bond, less_bond}
 use Rattle.net.proofs.Bonds.{bond-order}
 use Rattle.net.proofs.Tables.{length-table}

@@ -1,9 +1,7 @@
 use mathlib.Core.Path.{◌≡◌, refl, sym, ◌∙◌}
-use Prim.Native.Nat.{◌-◌, ◌≤◌}
 use native.Mathlib.Omega.{arith}
 use borrow.Author.Rules.{rules}
 use Rattle.net.proofs.Tables.{all_more}
-use Rattle.net.specs.Tests.{all, table}
 use Rattle.marking.proofs.Sets.{self}
 use Rattle.marking_form.proofs.Same.{same_at, same-take}
 use Rattle.marking_form.proofs.same_bytes.Goals as goal

@@ -1,11 +1,8 @@
-use mathlib.Core.Path.{◌≡◌, refl, sym, ◌∙◌}
+use mathlib.Core.Path.{◌≡◌}
 use Prim.Native.Nat.{◌-◌, ◌≤◌}
-use native.Mathlib.Omega.{arith}
-use borrow.Author.Rules.{rules}
-use Rattle.net.proofs.Tables.{all_more}
 use Rattle.net.specs.Tests.{all, table}
 use Rattle.marking.proofs.Sets.{self}
-use Rattle.marking_form.proofs.Same.{same_at, same-take}
+use Rattle.marking_form.proofs.Same.{same_at}
 use Rattle.marking_form.proofs.same_bytes.Given as goal
 
 abbrev pub invariant-loop-i : goal.invariant-loop-i

@@ -1,10 +1,6 @@
-use mathlib.Core.Path.{◌≡◌, refl, sym, ◌∙◌}
-use mathlib.Core.Bool.{◌&&◌}
-use Prim.Native.Nat.{ℕ, ◌-◌}
-use lib.ListN.{length}
+use mathlib.Core.Path.{refl, sym, ◌∙◌}
+use Prim.Native.Nat.{ℕ}
 use lib.Dec.{eqb}
-use borrow.Author.Rules.{rules}
-use Rattle.marking.specs.Form.{zero_from}
 use Rattle.marking_form.proofs.Zeros.{rest-turn, rest_end}
 use Rattle.marking_form.proofs.zero_bytes.Goals as goal
 

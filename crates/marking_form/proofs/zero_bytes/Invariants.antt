@@ -1,11 +1,8 @@
-use mathlib.Core.Path.{◌≡◌, refl, sym, ◌∙◌}
+use mathlib.Core.Path.{◌≡◌}
 use mathlib.Core.Bool.{◌&&◌}
-use Prim.Native.Nat.{ℕ, ◌-◌}
+use Prim.Native.Nat.{◌-◌}
 use lib.ListN.{length}
-use lib.Dec.{eqb}
-use borrow.Author.Rules.{rules}
 use Rattle.marking.specs.Form.{zero_from}
-use Rattle.marking_form.proofs.Zeros.{rest-turn, rest_end}
 use Rattle.marking_form.proofs.zero_bytes.Given as goal
 
 abbrev pub invariant-loop-i : goal.invariant-loop-i

@@ -1,5 +1,4 @@
 use mathlib.Core.Path.{sym, ◌∙◌}
-use borrow.Author.Rules.{rules}
 use Rattle.movers.proofs.above.Goals as goal
 
 pub returns-then-shares : goal.returns-then-shares

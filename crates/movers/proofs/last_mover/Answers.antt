@@ -1,9 +1,8 @@
 use borrow.Author.Rules.{rules}
 use native.Mathlib.Omega.{arith}
 use mathlib.Core.Path.{◌≡◌, subst}
-use mathlib.Core.List.{List}
-use Prim.Native.Nat.{ℕ, ◌-◌, ◌<◌, ◌≤◌}
-use Rattle.net.specs.Limits.{max_bases, max_live}
+use Prim.Native.Nat.{ℕ}
+use Rattle.net.specs.Limits.{max_bases}
 use Rattle.net.specs.Journal.{LiveLine}
 use Rattle.firings.specs.Lines.{firing_at, as_line}
 use Rattle.movers.proofs.Tops.{Last, last_none, last_more, last-all}

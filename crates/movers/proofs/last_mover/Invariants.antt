@@ -1,12 +1,8 @@
-use borrow.Author.Rules.{rules}
-use native.Mathlib.Omega.{arith}
-use mathlib.Core.Path.{◌≡◌, subst}
 use mathlib.Core.List.{List}
 use Prim.Native.Nat.{ℕ, ◌-◌, ◌<◌, ◌≤◌}
 use Rattle.net.specs.Limits.{max_bases, max_live}
-use Rattle.net.specs.Journal.{LiveLine}
 use Rattle.firings.specs.Lines.{firing_at, as_line}
-use Rattle.movers.proofs.Tops.{Last, last_none, last_more, last-all}
+use Rattle.movers.proofs.Tops.{Last}
 use Rattle.movers.proofs.last_mover.Given as goal
 
 abbrev pub invariant-loop-i : goal.invariant-loop-i

@@ -1,5 +1,4 @@
 use mathlib.Core.Path.{sym, ◌∙◌}
-use borrow.Author.Rules.{rules}
 use Rattle.movers.proofs.mover_or.Goals as goal
 
 pub returns-then-has_base : goal.returns-then-has_base

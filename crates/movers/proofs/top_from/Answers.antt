@@ -1,14 +1,14 @@
 use borrow.Author.Rules.{rules}
 use native.Mathlib.Omega.{arith}
-use mathlib.Core.Path.{◌≡◌, ap, sym, ◌∙◌}
+use mathlib.Core.Path.{ap, sym, ◌∙◌}
 use mathlib.Core.List.{List, []}
-use Prim.Native.Nat.{ℕ, suc, ◌-◌, ◌<◌, ◌≤◌}
+use Prim.Native.Nat.{ℕ}
 use lib.ListN.{get_or, drop}
 use native.Mathlib.Numerals.{add-one}
-use Rattle.net.specs.Limits.{max_bases, max_live}
+use Rattle.net.specs.Limits.{max_bases}
 use Rattle.net.specs.Journal.{LiveLine, no_line}
 use Rattle.net.proofs.Tables.{length-table}
-use Rattle.firings.specs.Lines.{lying, firing_at, as_line, lines_in}
+use Rattle.firings.specs.Lines.{firing_at, as_line}
 use Rattle.movers.specs.Tops.{sharing, top_of}
 use Rattle.movers.proofs.Tops.{top-turn, top-end, picked}
 use Rattle.movers.proofs.top_from.Invariants.{lines}

@@ -1,13 +1,9 @@
 use borrow.Author.Rules.{rules}
 use native.Mathlib.Omega.{arith}
-use mathlib.Core.Path.{◌≡◌, refl}
-use mathlib.Core.List.{◌++◌}
-use Prim.Native.Nat.{◌-◌, ◌≤◌}
-use lib.ListN.{drop, get_or, length, length-replicate}
+use mathlib.Core.Path.{refl}
+use lib.ListN.{get_or, length-replicate}
 use Rattle.bonds.proofs.Fill.{fill-turn}
 use Rattle.live_list.specs.List.{no_firing}
-use Rattle.net.specs.Limits.{max_live}
-use Rattle.net.specs.Tests.{table}
 use Rattle.page.proofs.Reading.{lent-all}
 use Rattle.page.specs.Rows.{lent_firings}
 use Rattle.page.proofs.lendable.Goals as goal

@@ -1,4 +1,3 @@
-use borrow.Author.Rules.{rules}
 use borrow.Author.Tests.{le-leb, lt-leb}
 use Rattle.page.specs.Rows.{with_firing}
 use Rattle.page.proofs.with_firing.Goals as goal

@@ -1,10 +1,7 @@
 use borrow.Author.Rules.{rules}
 use native.Mathlib.Omega.{arith}
 use mathlib.Core.Path.{◌≡◌, ◌∙◌}
-use Prim.Native.Nat.{◌+◌, ◌-◌, ◌≤◌}
-use lib.ListN.{length, length-set}
-use lib.Seq.{sets}
-use Rattle.page_lines.specs.Page.{blanks}
+use lib.ListN.{length-set}
 use Rattle.page_lines.proofs.Lines.{blanks-more, blanks-length}
 use Rattle.page_lines.proofs.put_blanks.Goals as goal
 

@@ -1,4 +1,3 @@
-use borrow.Author.Rules.{rules}
 use native.Mathlib.Omega.{arith}
 use Rattle.page_lines.proofs.Lines.{last-pieces}
 use Rattle.text.proofs.Digits.{digits-length}

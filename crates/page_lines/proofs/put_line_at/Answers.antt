@@ -1,4 +1,3 @@
-use borrow.Author.Rules.{rules}
 use Rattle.page_lines.proofs.Lines.{blank-pieces, line_of, line-past}
 use Rattle.page_lines.proofs.put_line_at.Goals as goal
 

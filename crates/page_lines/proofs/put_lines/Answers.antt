@@ -1,14 +1,10 @@
 use borrow.Author.Rules.{rules}
 use native.Mathlib.Omega.{arith}
-use mathlib.Core.Path.{◌≡◌}
-use Prim.Native.Nat.{◌*◌, ◌+◌, ◌-◌, ◌≤◌}
-use lib.ListN.{length}
-use Rattle.net.specs.Tests.{table}
+use Prim.Native.Nat.{◌*◌, ◌+◌, ◌-◌}
 use Rattle.page_lines.proofs.Lines.{table_filled}
-use Rattle.page_lines.specs.Page.{line_at, page_bytes, rows_in}
+use Rattle.page_lines.specs.Page.{line_at, rows_in}
 use Rattle.text.proofs.Joined.{table-written}
-use Rattle.text.proofs.Writes.{Written, written_none}
-use Rattle.text.specs.Joined.{joined}
+use Rattle.text.proofs.Writes.{written_none}
 use Rattle.page_lines.proofs.put_lines.Goals as goal
 
 pub loop-i-init : goal.loop-i-init

@@ -1,13 +1,9 @@
-use borrow.Author.Rules.{rules}
-use native.Mathlib.Omega.{arith}
 use mathlib.Core.Path.{◌≡◌}
 use Prim.Native.Nat.{◌*◌, ◌+◌, ◌-◌, ◌≤◌}
 use lib.ListN.{length}
 use Rattle.net.specs.Tests.{table}
-use Rattle.page_lines.proofs.Lines.{table_filled}
 use Rattle.page_lines.specs.Page.{line_at, page_bytes, rows_in}
-use Rattle.text.proofs.Joined.{table-written}
-use Rattle.text.proofs.Writes.{Written, written_none}
+use Rattle.text.proofs.Writes.{Written}
 use Rattle.text.specs.Joined.{joined}
 use Rattle.page_lines.proofs.put_lines.Given as goal
 

@@ -1,4 +1,3 @@
-use borrow.Author.Rules.{rules}
 use native.Mathlib.Omega.{arith}
 use Rattle.page_lines.proofs.Lines.{page-pieces}
 use Rattle.page_lines.specs.Page.{page_lines, rows_in}

@@ -1,4 +1,3 @@
-use borrow.Author.Rules.{rules}
 use native.Mathlib.Omega.{arith}
 use Rattle.page_lines.proofs.Lines.{fits-3, fits-4, fits-5, row-pieces}
 use Rattle.page_lines.specs.Page.{row}

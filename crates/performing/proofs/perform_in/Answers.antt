@@ -1,5 +1,4 @@
 -- what was lent
-use borrow.Author.Rules.{rules}
 use borrow.Author.Tests.{lt-ltb, le-ltb}
 use mathlib.Core.Path.{refl, ap, sym, ◌∙◌}
 use Rattle.format.specs.Parts.{bases_of}

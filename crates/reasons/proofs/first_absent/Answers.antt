@@ -1,10 +1,9 @@
 use borrow.Author.Rules.{rules}
 use native.Mathlib.Omega.{arith}
 use mathlib.Core.Path.{◌≡◌, refl, ap, sym, ◌∙◌}
-use mathlib.Core.Bool.{false, not}
+use mathlib.Core.Bool.{not}
 use mathlib.Core.List.{List}
-use Prim.Native.Nat.{◌-◌, ◌<◌, ◌≤◌}
-use Rattle.net.specs.Tests.{any, table}
+use Prim.Native.Nat.{◌<◌}
 use Rattle.net.specs.declared.Bond.{Bond}
 use Rattle.format.specs.Arcs.{in_count, nth_in_bond}
 use Rattle.format.proofs.Loops.{any-on}

@@ -1,10 +1,8 @@
 use borrow.Author.Rules.{rules}
 use native.Mathlib.Omega.{arith}
 use mathlib.Core.Path.{◌≡◌, refl}
-use mathlib.Core.Bool.{false}
-use Prim.Native.Nat.{◌-◌, ◌<◌, ◌≤◌}
+use Prim.Native.Nat.{◌<◌}
 use Rattle.net.specs.Limits.{max_bases}
-use Rattle.net.specs.Tests.{any, table}
 use Rattle.words.specs.Sets.{set_of}
 use Rattle.format.proofs.Loops.{any-on}
 use Rattle.reasons.specs.Reasons.{in_both}

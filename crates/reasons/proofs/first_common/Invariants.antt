@@ -1,15 +1,10 @@
-use borrow.Author.Rules.{rules}
-use native.Mathlib.Omega.{arith}
-use mathlib.Core.Path.{◌≡◌, refl}
+use mathlib.Core.Path.{◌≡◌}
 use mathlib.Core.Bool.{false}
-use Prim.Native.Nat.{◌-◌, ◌<◌, ◌≤◌}
+use Prim.Native.Nat.{◌-◌, ◌≤◌}
 use Rattle.net.specs.Limits.{max_bases}
 use Rattle.net.specs.Tests.{any, table}
 use Rattle.words.specs.Sets.{set_of}
-use Rattle.format.proofs.Loops.{any-on}
 use Rattle.reasons.specs.Reasons.{in_both}
-use Rattle.reasons.proofs.Tests.{both_by}
-use Rattle.net.proofs.Firsts.{first-here, first-none}
 use Rattle.reasons.proofs.first_common.Given as goal
 
 abbrev pub invariant-loop-p : goal.invariant-loop-p

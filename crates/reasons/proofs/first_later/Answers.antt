@@ -1,15 +1,11 @@
 use borrow.Author.Rules.{rules}
 use native.Mathlib.Omega.{arith}
-use mathlib.Core.Path.{◌≡◌, sym, ◌∙◌}
-use mathlib.Core.List.{List}
-use Prim.Native.Nat.{ℕ, ◌+◌, ◌-◌, ◌≤◌}
+use mathlib.Core.Path.{sym, ◌∙◌}
 use lib.ListN.{get_or}
-use Rattle.net.specs.Limits.{max_bases, max_live}
+use Rattle.net.specs.Limits.{max_bases}
 use Rattle.words.specs.Sets.{set_of}
-use Rattle.firings.proofs.Lines.{lines}
-use Rattle.reasons.specs.Reasons.{later_at}
 use Rattle.net.specs.Journal.{common}
-use Rattle.reasons.proofs.Later.{from, later-begin, later-here, later-on, later-none}
+use Rattle.reasons.proofs.Later.{later-begin, later-here, later-on, later-none}
 use Rattle.reasons.proofs.first_later.Goals as goal
 
 pub loop-j-init : goal.loop-j-init

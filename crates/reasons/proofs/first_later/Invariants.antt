@@ -1,15 +1,11 @@
-use borrow.Author.Rules.{rules}
-use native.Mathlib.Omega.{arith}
-use mathlib.Core.Path.{◌≡◌, sym, ◌∙◌}
+use mathlib.Core.Path.{◌≡◌}
 use mathlib.Core.List.{List}
 use Prim.Native.Nat.{ℕ, ◌+◌, ◌-◌, ◌≤◌}
 use lib.ListN.{get_or}
-use Rattle.net.specs.Limits.{max_bases, max_live}
-use Rattle.words.specs.Sets.{set_of}
+use Rattle.net.specs.Limits.{max_live}
 use Rattle.firings.proofs.Lines.{lines}
 use Rattle.reasons.specs.Reasons.{later_at}
-use Rattle.net.specs.Journal.{common}
-use Rattle.reasons.proofs.Later.{from, later-begin, later-here, later-on, later-none}
+use Rattle.reasons.proofs.Later.{from}
 use Rattle.reasons.proofs.first_later.Given as goal
 
 abbrev pub invariant-loop-j : goal.invariant-loop-j

@@ -1,10 +1,8 @@
 use borrow.Author.Rules.{rules}
 use native.Mathlib.Omega.{arith}
 use mathlib.Core.Path.{◌≡◌, refl, ◌∙◌}
-use mathlib.Core.Bool.{false}
 use mathlib.Core.List.{List}
-use Prim.Native.Nat.{◌-◌, ◌<◌, ◌≤◌}
-use Rattle.net.specs.Tests.{any, table}
+use Prim.Native.Nat.{◌<◌}
 use Rattle.net.specs.declared.Bond.{Bond}
 use Rattle.format.specs.Arcs.{out_count, nth_out_bond, arcs_in}
 use Rattle.format.proofs.Loops.{any-on}

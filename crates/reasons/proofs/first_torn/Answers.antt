@@ -1,14 +1,9 @@
 use borrow.Author.Rules.{rules}
 use native.Mathlib.Omega.{arith}
 use mathlib.Core.Path.{◌≡◌, refl, sym, subst, ◌∙◌}
-use mathlib.Core.Bool.{false}
-use Prim.Native.Nat.{◌-◌, ◌<◌, ◌≤◌}
+use Prim.Native.Nat.{◌<◌}
 use Rattle.net.specs.Limits.{max_bases}
-use Rattle.net.specs.Tests.{any, table}
-use Rattle.net.specs.Net.{Marking}
 use Rattle.net.specs.declared.Entry.{Entry}
-use Rattle.net.specs.Firing.{bonds_seen}
-use Rattle.labels.specs.Labelled.{Parted}
 use Rattle.format.specs.Arcs.{entry_count, nth_entry, arcs_in}
 use Rattle.format.proofs.Loops.{any-on}
 use Rattle.reasons.specs.Reasons.{torn_from, has_partner}

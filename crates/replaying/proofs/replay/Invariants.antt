@@ -1,25 +1,14 @@
 -- the run from the start is the run of the firings that are left, from the marking that the arrays hold
-use borrow.Author.Rules.{rules}
-use borrow.Author.Tests.{not-true, not-false}
-use mathlib.Core.Path.{◌≡◌, refl, sym, ◌∙◌}
-use mathlib.Core.Bool.{false}
 use Prim.Native.Nat.{ℕ, ◌-◌, ◌^◌, ◌<◌, ◌≤◌}
-use lib.ListN.{get_or, drop}
-use Rattle.causal.proofs.Tests.{both}
+use lib.ListN.{get_or}
 use Rattle.net.specs.Limits.{max_live}
-use Rattle.net.specs.Net as Net
-use Rattle.net.specs.History.{replays}
 use Rattle.format.specs.Parts.{bases_of}
-use Rattle.format.specs.NetOf.{net_of}
 use Rattle.bonds.specs.Ends.{bonds_in}
 use Rattle.labels.specs.Labelled.{Labelled}
-use Rattle.marking.specs.declared.Marking.{Marking}
-use Rattle.marking.specs.Form.{marking_of}
 use Rattle.marking.specs.Held.{holding}
-use Rattle.firings.specs.Lines.{lying, lines_in}
-use Rattle.firings.specs.declared.Firings.{Firings}
+use Rattle.firings.specs.Lines.{lying}
 use Rattle.steps.specs.Placed.{Placed}
-use Rattle.replaying.proofs.Lines.{placed-room, Runs, run-stops, run-goes, placed-goes, run_ends}
+use Rattle.replaying.proofs.Lines.{Runs}
 use Rattle.replaying.proofs.replay.Given as goal
 
 abbrev pub invariant-loop-i : goal.invariant-loop-i

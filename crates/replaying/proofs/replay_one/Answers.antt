@@ -1,5 +1,4 @@
 -- the function's start, and the marking that was lent
-use borrow.Author.Rules.{rules}
 use mathlib.Core.Path.{refl}
 use mathlib.Core.Bool.{false}
 use Rattle.causal.proofs.Tests.{both}

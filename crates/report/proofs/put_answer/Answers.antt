@@ -1,5 +1,4 @@
 use Rattle.report.proofs.Pieces.{word-fired, word-undone, word-refused}
-use borrow.Author.Rules.{rules}
 use Rattle.report.proofs.put_answer.Goals as goal
 
 pub returns-then-word-eq0 : goal.returns-then-word-eq0

@@ -2,14 +2,9 @@ use borrow.Author.Rules.{rules}
 use native.Mathlib.Omega.{arith}
 use mathlib.Core.Path.{◌≡◌, ◌∙◌}
 use native.Mathlib.Nat.{zero-add}
-use Prim.Native.Nat.{◌-◌, ◌*◌, ◌≤◌}
-use lib.ListN.{length}
-use Rattle.net.specs.Tests.{table}
-use Rattle.text.specs.Joined.{joined}
-use Rattle.text.proofs.Writes.{Written, written_none}
+use Rattle.text.proofs.Writes.{written_none}
 use Rattle.text.proofs.Joined.{table-written}
-use Rattle.report.specs.Lines.{min_line}
-use Rattle.report.specs.Said.{max_commands, line_at, LowValues}
+use Rattle.report.specs.Said.{line_at}
 use Rattle.report.proofs.put_answers.Goals as goal
 
 pub loop-i-init : goal.loop-i-init

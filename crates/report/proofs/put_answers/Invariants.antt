@@ -1,13 +1,9 @@
-use borrow.Author.Rules.{rules}
-use native.Mathlib.Omega.{arith}
-use mathlib.Core.Path.{◌≡◌, ◌∙◌}
-use native.Mathlib.Nat.{zero-add}
+use mathlib.Core.Path.{◌≡◌}
 use Prim.Native.Nat.{◌-◌, ◌*◌, ◌≤◌}
 use lib.ListN.{length}
 use Rattle.net.specs.Tests.{table}
 use Rattle.text.specs.Joined.{joined}
-use Rattle.text.proofs.Writes.{Written, written_none}
-use Rattle.text.proofs.Joined.{table-written}
+use Rattle.text.proofs.Writes.{Written}
 use Rattle.report.specs.Lines.{min_line}
 use Rattle.report.specs.Said.{max_commands, line_at, LowValues}
 use Rattle.report.proofs.put_answers.Given as goal

@@ -1,5 +1,4 @@
 use Rattle.sheet.proofs.Order.{answered-none, answered-one}
-use borrow.Author.Rules.{rules}
 use Rattle.sheet.proofs.check_sheet.Goals as goal
 
 pub returns-then-refusal-eq0 : goal.returns-then-refusal-eq0

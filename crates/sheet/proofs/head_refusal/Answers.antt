@@ -2,12 +2,11 @@
 use Rattle.net.specs.Checks.{first}
 use Rattle.sheet.specs.Checks.{head_checks}
 use Prim.Native.Nat.{ℕ}
-use mathlib.Core.Bool.{true, false}
+use mathlib.Core.Bool.{false}
 use mathlib.Core.List.{List}
 use Rattle.sheet_head.specs.Conditions.{wrong_size, wrong_version, wrong_counts, wrong_pairs, wrong_start_places}
 use mathlib.Core.Path.{◌≡◌, sym, ◌∙◌}
 use lib.ListN.{drop}
-use borrow.Author.Rules.{rules}
 use Rattle.sheet.proofs.head_refusal.Goals as goal
 
 passed-1 : (s : List ℕ) → wrong_size s ≡ false → first (head_checks s) ≡ first (drop 1 (head_checks s))

@@ -1,6 +1,5 @@
 use Rattle.sheet.proofs.Order.{head-left, head-on}
 use mathlib.Core.Path.{◌∙◌}
-use borrow.Author.Rules.{rules}
 use Rattle.sheet.proofs.sheet_refusal.Goals as goal
 
 pub returns-then-head-ne0 : goal.returns-then-head-ne0

@@ -1,6 +1,5 @@
 use Rattle.sheet.proofs.Order.{refused-7, refused-8, refused-9, refused_none}
 use mathlib.Core.Path.{sym, ◌∙◌}
-use borrow.Author.Rules.{rules}
 use Rattle.sheet.proofs.transition_refusal.Goals as goal
 
 pub returns-then-wrong_width : goal.returns-then-wrong_width

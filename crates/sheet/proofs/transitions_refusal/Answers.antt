@@ -1,10 +1,6 @@
 use Rattle.sheet.proofs.Order.{from-left, from_on, from_end}
-use Rattle.sheet.specs.Checks.{checks_from}
-use Rattle.format.specs.Parts.{transitions_of}
-use Rattle.net.specs.Checks.{first}
 use borrow.Author.Rules.{rules}
-use mathlib.Core.Path.{◌≡◌, sym, ◌∙◌}
-use Prim.Native.Nat.{◌+◌, ◌≤◌}
+use mathlib.Core.Path.{sym, ◌∙◌}
 use Rattle.sheet.proofs.transitions_refusal.Goals as goal
 
 pub loop-left-init : goal.loop-left-init

@@ -1,9 +1,7 @@
-use Rattle.sheet.proofs.Order.{from-left, from_on, from_end}
 use Rattle.sheet.specs.Checks.{checks_from}
 use Rattle.format.specs.Parts.{transitions_of}
 use Rattle.net.specs.Checks.{first}
-use borrow.Author.Rules.{rules}
-use mathlib.Core.Path.{◌≡◌, sym, ◌∙◌}
+use mathlib.Core.Path.{◌≡◌}
 use Prim.Native.Nat.{◌+◌, ◌≤◌}
 use Rattle.sheet.proofs.transitions_refusal.Given as goal
 

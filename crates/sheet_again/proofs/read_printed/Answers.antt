@@ -1,7 +1,6 @@
 use native.Mathlib.Omega.{arith}
 use mathlib.Core.Path.{sym, ap, ◌∙◌}
 use lib.Seq.{length-take-le}
-use borrow.Author.Rules.{rules}
 use Rattle.sheet_print.specs.Printing.{end_of}
 use Rattle.sheet_again.proofs.Back.{read_again, refused-again}
 use Rattle.sheet_again.proofs.read_printed.Goals as goal

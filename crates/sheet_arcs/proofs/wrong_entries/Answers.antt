@@ -1,7 +1,5 @@
 use Rattle.sheet_arcs.specs.Conditions.{wrong_entries}
-use borrow.Author.Tests.{not-true, not-false}
 use mathlib.Core.Path.{sym, ◌∙◌}
-use borrow.Author.Rules.{rules}
 use Rattle.sheet_arcs.proofs.wrong_entries.Goals as goal
 
 pub returns-then-not-entries_there : goal.returns-then-not-entries_there

@@ -1,6 +1,5 @@
 use Rattle.sheet_arcs.specs.Conditions.{wrong_width}
 use borrow.Author.Tests.{eq-eqb, ne_eqb}
-use borrow.Author.Rules.{rules}
 use Rattle.sheet_arcs.proofs.wrong_width.Goals as goal
 
 pub returns-then-b-width : goal.returns-then-b-width

@@ -1,13 +1,11 @@
 use Rattle.sheet_bonds.proofs.Tests.{starting}
 use Rattle.format.proofs.Loops.{any-on, any_left, any-end}
 use Rattle.format.specs.Arcs.{entry_count, nth_entry, arcs_in}
-use Rattle.net.specs.Tests.{any, table}
-use mathlib.Core.Bool.{false}
 use borrow.Author.Tests.{lt-ltb, le-ltb}
 use borrow.Author.Rules.{rules}
 use native.Mathlib.Omega.{arith}
-use mathlib.Core.Path.{◌≡◌, refl, sym, ◌∙◌}
-use Prim.Native.Nat.{ℕ, ◌-◌, ◌<◌, ◌≤◌}
+use mathlib.Core.Path.{refl, sym, ◌∙◌}
+use Prim.Native.Nat.{ℕ}
 use mathlib.Core.List.{List}
 use Rattle.sheet_bonds.proofs.bond_joins.Goals as goal
 

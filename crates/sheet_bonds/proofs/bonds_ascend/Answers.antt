@@ -1,13 +1,10 @@
-use Rattle.format.proofs.Loops.{self, below, ascends-on, ascends-left, ascends-end}
+use Rattle.format.proofs.Loops.{ascends-on, ascends-left, ascends-end}
 use Rattle.format.specs.Sides.{bond_count, nth_bond}
 use Rattle.net.specs.Net.{less_bond}
-use Rattle.net.specs.Tests.{all, table}
-use mathlib.Core.Bool.{true}
-use borrow.Author.Tests.{not-true, not-false}
 use borrow.Author.Rules.{rules}
 use native.Mathlib.Omega.{arith}
-use mathlib.Core.Path.{◌≡◌, refl, sym, ◌∙◌}
-use Prim.Native.Nat.{ℕ, ◌-◌, ◌≤◌}
+use mathlib.Core.Path.{refl, sym, ◌∙◌}
+use Prim.Native.Nat.{ℕ}
 use mathlib.Core.List.{List}
 use Rattle.sheet_bonds.proofs.bonds_ascend.Goals as goal
 

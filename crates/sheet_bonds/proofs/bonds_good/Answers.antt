@@ -1,6 +1,4 @@
-use borrow.Author.Tests.{not-true, not-false}
 use mathlib.Core.Path.{sym, ◌∙◌}
-use borrow.Author.Rules.{rules}
 use Rattle.sheet_bonds.proofs.bonds_good.Goals as goal
 
 pub returns-then-not-bonds_ascend : goal.returns-then-not-bonds_ascend

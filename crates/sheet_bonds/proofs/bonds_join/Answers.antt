@@ -3,13 +3,10 @@ use Rattle.format.specs.Sides.{bond_count, nth_bond}
 use Rattle.sheet_bonds.specs.Sides.{side_of}
 use Rattle.format.specs.Arcs.{arcs_in}
 use Rattle.net.specs.Rules.{joins}
-use Rattle.net.specs.Tests.{all, table}
-use mathlib.Core.Bool.{true}
-use borrow.Author.Tests.{not-true, not-false}
 use borrow.Author.Rules.{rules}
 use native.Mathlib.Omega.{arith}
-use mathlib.Core.Path.{◌≡◌, refl, sym, ◌∙◌}
-use Prim.Native.Nat.{ℕ, ◌-◌, ◌≤◌}
+use mathlib.Core.Path.{refl, sym, ◌∙◌}
+use Prim.Native.Nat.{ℕ}
 use mathlib.Core.List.{List}
 use Rattle.sheet_bonds.proofs.bonds_join.Goals as goal
 

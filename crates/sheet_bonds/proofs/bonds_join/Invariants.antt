@@ -1,16 +1,11 @@
-use Rattle.format.proofs.Loops.{all-on, all_left, all_end}
 use Rattle.format.specs.Sides.{bond_count, nth_bond}
 use Rattle.sheet_bonds.specs.Sides.{side_of}
 use Rattle.format.specs.Arcs.{arcs_in}
 use Rattle.net.specs.Rules.{joins}
 use Rattle.net.specs.Tests.{all, table}
 use mathlib.Core.Bool.{true}
-use borrow.Author.Tests.{not-true, not-false}
-use borrow.Author.Rules.{rules}
-use native.Mathlib.Omega.{arith}
-use mathlib.Core.Path.{◌≡◌, refl, sym, ◌∙◌}
-use Prim.Native.Nat.{ℕ, ◌-◌, ◌≤◌}
-use mathlib.Core.List.{List}
+use mathlib.Core.Path.{◌≡◌}
+use Prim.Native.Nat.{◌-◌, ◌≤◌}
 use Rattle.sheet_bonds.proofs.bonds_join.Given as goal
 
 abbrev pub invariant-loop-i : goal.invariant-loop-i

@@ -1,5 +1,4 @@
 use borrow.Author.Tests.{eq-eqb, ne_eqb}
-use borrow.Author.Rules.{rules}
 use Rattle.sheet_bonds.proofs.is_partner.Goals as goal
 
 pub returns-then-d-hi : goal.returns-then-d-hi

@@ -1,5 +1,4 @@
 use borrow.Author.Tests.{eq-eqb, ne_eqb}
-use borrow.Author.Rules.{rules}
 use Rattle.sheet_bonds.proofs.starts.Goals as goal
 
 pub returns-then-e-x : goal.returns-then-e-x

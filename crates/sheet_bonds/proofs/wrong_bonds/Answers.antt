@@ -1,7 +1,5 @@
 use Rattle.sheet_bonds.proofs.Tests.{in-wrong, out-wrong}
-use borrow.Author.Tests.{not-true, not-false}
 use mathlib.Core.Path.{sym, ◌∙◌}
-use borrow.Author.Rules.{rules}
 use Rattle.sheet_bonds.proofs.wrong_bonds.Goals as goal
 
 pub returns-then-not-bonds_good : goal.returns-then-not-bonds_good

@@ -2,8 +2,6 @@ use Rattle.sheet_draft.proofs.Makes.{is-understood, too_long, to_make, made}
 use borrow.Author.Tests.{not-true, not-false}
 use lib.Seq.{length-take-le}
 use mathlib.Core.Path.{sym, ◌∙◌}
-use lib.ListN.{take}
-use borrow.Author.Rules.{rules}
 use Rattle.sheet_draft.proofs.make.Goals as goal
 
 pub returns-then-not-x : goal.returns-then-not-x

@@ -1,12 +1,10 @@
 use Rattle.sheet_draft.proofs.Sheet.{few-parts, few-steps, all_fit}
 use Rattle.sheet_draft.specs.Bytes.{count_of, counts_fit}
 use Rattle.sheet_draft.specs.declared.Made.TheVariants.{Sheet}
-use borrow.Author.Tests.{not-true, not-false, leb-true}
+use borrow.Author.Tests.{leb-true}
 use mathlib.Core.Bool.{true, false}
 use native.Mathlib.Omega.{arith}
 use mathlib.Core.Path.{◌≡◌, refl, ap, sym, ◌∙◌}
-use lib.ListN.{take}
-use borrow.Author.Rules.{rules}
 use Rattle.sheet_draft.proofs.make_sheet.Goals as goal
 
 pub returns-then-not-fine : goal.returns-then-not-fine

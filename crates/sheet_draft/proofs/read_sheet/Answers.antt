@@ -1,8 +1,6 @@
 use Rattle.sheet_draft.proofs.Makes.{mistaken}
 use Rattle.sheet_text.specs.declared.Mistake as M
 use mathlib.Core.Path.{ap, sym, ◌∙◌}
-use lib.ListN.{take}
-use borrow.Author.Rules.{rules}
 use Rattle.sheet_draft.proofs.read_sheet.Goals as goal
 
 pub returns-then-line-ne0 : goal.returns-then-line-ne0

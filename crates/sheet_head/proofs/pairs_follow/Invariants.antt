@@ -1,9 +1,6 @@
-use native.Mathlib.Omega.{arith}
-use Rattle.sheet_head.proofs.Pairs.{follow-left, follow-on, follow-end}
 use Rattle.sheet_head.specs.Conditions.{follow, parts_begin}
 use Rattle.format.specs.Parts.{pairs_of}
-use borrow.Author.Rules.{rules}
-use mathlib.Core.Path.{◌≡◌, sym, ◌∙◌}
+use mathlib.Core.Path.{◌≡◌}
 use Prim.Native.Nat.{◌+◌, ◌*◌, ◌≤◌}
 use Rattle.sheet_head.proofs.pairs_follow.Given as goal
 

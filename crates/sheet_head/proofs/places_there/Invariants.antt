@@ -1,14 +1,9 @@
-use Rattle.format.proofs.Loops.{all-on, all_left, all_end, all_list}
 use Rattle.net.specs.Tests.{all, table}
 use lib.Dec.{ltb}
 use mathlib.Core.Bool.{true}
-use borrow.Author.Tests.{lt-ltb, le-ltb}
-use borrow.Author.Rules.{rules}
-use native.Mathlib.Omega.{arith}
-use mathlib.Core.Path.{◌≡◌, refl, sym, ◌∙◌}
+use mathlib.Core.Path.{◌≡◌}
 use Prim.Native.Nat.{ℕ, ◌-◌, ◌≤◌}
 use lib.ListN.{length, get_or}
-use mathlib.Core.List.{List}
 use Rattle.sheet_head.proofs.places_there.Given as goal
 
 abbrev pub invariant-loop-i : goal.invariant-loop-i

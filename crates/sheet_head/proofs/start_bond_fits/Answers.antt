@@ -1,5 +1,4 @@
 use borrow.Author.Tests.{lt-ltb, le-ltb}
-use borrow.Author.Rules.{rules}
 use Rattle.sheet_head.proofs.start_bond_fits.Goals as goal
 
 pub returns-then-b : goal.returns-then-b

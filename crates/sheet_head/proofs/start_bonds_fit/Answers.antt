@@ -2,13 +2,10 @@ use Rattle.format.proofs.Loops.{all-on, all_left, all_end}
 use Rattle.format.specs.NetOf.{start_bond_count, nth_start_bond, start_marking}
 use Rattle.format.specs.Parts.{bases_of}
 use Rattle.net.specs.Rules.{start_bond_rule}
-use Rattle.net.specs.Tests.{all, table}
-use mathlib.Core.Bool.{true}
-use borrow.Author.Tests.{not-true, not-false}
 use borrow.Author.Rules.{rules}
 use native.Mathlib.Omega.{arith}
-use mathlib.Core.Path.{◌≡◌, refl, sym, ◌∙◌}
-use Prim.Native.Nat.{ℕ, ◌-◌, ◌≤◌}
+use mathlib.Core.Path.{refl, sym, ◌∙◌}
+use Prim.Native.Nat.{ℕ}
 use mathlib.Core.List.{List}
 use Rattle.sheet_head.proofs.start_bonds_fit.Goals as goal
 

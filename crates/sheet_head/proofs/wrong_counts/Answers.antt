@@ -1,5 +1,4 @@
 use Rattle.sheet_head.specs.Conditions.{wrong_counts}
-use borrow.Author.Rules.{rules}
 use Rattle.sheet_head.proofs.wrong_counts.Goals as goal
 
 pub returns-then-outside : goal.returns-then-outside

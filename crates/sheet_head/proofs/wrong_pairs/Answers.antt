@@ -1,6 +1,5 @@
 use Rattle.sheet_head.specs.Conditions.{wrong_pairs}
 use borrow.Author.Tests.{lt-ltb, le-ltb}
-use borrow.Author.Rules.{rules}
 use Rattle.sheet_head.proofs.wrong_pairs.Goals as goal
 
 pub returns-then-sheet-begin : goal.returns-then-sheet-begin

@@ -1,7 +1,6 @@
 use Rattle.sheet_head.specs.Conditions.{wrong_start_bonds}
-use borrow.Author.Tests.{eq-eqb, ne_eqb, not-true, not-false}
+use borrow.Author.Tests.{eq-eqb, ne_eqb}
 use mathlib.Core.Path.{sym, ◌∙◌}
-use borrow.Author.Rules.{rules}
 use Rattle.sheet_head.proofs.wrong_start_bonds.Goals as goal
 
 pub returns-then-bytes-ne0 : goal.returns-then-bytes-ne0

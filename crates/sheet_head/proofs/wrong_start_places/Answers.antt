@@ -1,6 +1,5 @@
 use Rattle.sheet_head.specs.Conditions.{wrong_start_places}
 use borrow.Author.Tests.{eq-eqb, ne_eqb}
-use borrow.Author.Rules.{rules}
 use Rattle.sheet_head.proofs.wrong_start_places.Goals as goal
 
 pub returns-then-bytes-bases : goal.returns-then-bytes-bases

@@ -1,5 +1,4 @@
 use Rattle.sheet_head.specs.Conditions.{wrong_version}
-use borrow.Author.Rules.{rules}
 use Rattle.sheet_head.proofs.wrong_version.Goals as goal
 
 pub returns : goal.returns

@@ -1,4 +1,3 @@
-use borrow.Author.Rules.{rules}
 use native.Mathlib.Omega.{arith}
 use Rattle.format.specs.Arcs.{entry_count, in_count}
 use Rattle.sheet_print.proofs.Lists.{moves-upto, before-upto}

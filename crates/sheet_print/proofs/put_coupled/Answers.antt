@@ -1,4 +1,3 @@
-use borrow.Author.Rules.{rules}
 use Rattle.text.specs.Ascii.{ascii}
 use Rattle.sheet_print.proofs.Lines.{coupled-row, wrote-bond}
 use Rattle.sheet_text.specs.declared.Line.TheVariants.{Coupled}

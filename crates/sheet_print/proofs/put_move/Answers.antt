@@ -1,4 +1,3 @@
-use borrow.Author.Rules.{rules}
 use Rattle.sheet_print.proofs.Lines.{wrote-move}
 use Rattle.sheet_print.proofs.put_move.Goals as goal
 

@@ -1,16 +1,12 @@
-use borrow.Author.Rules.{rules}
-use native.Mathlib.Omega.{arith}
 use mathlib.Core.Path.{◌≡◌}
 use Prim.Native.Nat.{◌+◌, ◌-◌, ◌*◌, ◌≤◌}
 use lib.ListN.{length}
 use Rattle.net.specs.Tests.{table}
 use Rattle.text.specs.Joined.{joined}
-use Rattle.text.proofs.Writes.{Written, written_none, written-pair}
-use Rattle.text.proofs.Joined.{table-written}
+use Rattle.text.proofs.Writes.{Written}
 use Rattle.format.specs.Parts.{bases_of}
 use Rattle.sheet_print.specs.Pieces.{part_at}
 use Rattle.sheet_print.specs.Room.{line_room}
-use Rattle.sheet_print.proofs.Lists.{parts-upto}
 use Rattle.sheet_print.proofs.put_parts.Given as goal
 
 abbrev pub invariant-loop-i : goal.invariant-loop-i

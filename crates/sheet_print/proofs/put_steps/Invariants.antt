@@ -1,12 +1,9 @@
-use borrow.Author.Rules.{rules}
-use native.Mathlib.Omega.{arith}
 use mathlib.Core.Path.{◌≡◌}
 use Prim.Native.Nat.{◌+◌}
 use lib.ListN.{length}
 use Rattle.net.specs.Tests.{table}
 use Rattle.text.specs.Joined.{joined}
-use Rattle.text.proofs.Writes.{Written, written_none, written-pair}
-use Rattle.text.proofs.Joined.{table-written}
+use Rattle.text.proofs.Writes.{Written}
 use Rattle.format.specs.Parts.{transitions_of}
 use Rattle.sheet_print.specs.Pieces.{step_at}
 use Rattle.sheet_print.specs.Room.{StepsFit}

@@ -1,4 +1,3 @@
-use borrow.Author.Rules.{rules}
 use native.Mathlib.Omega.{arith}
 use Rattle.sheet_print.specs.Pieces.{named, one}
 use Rattle.sheet_print.proofs.Lines.{wrote-both, named-length}

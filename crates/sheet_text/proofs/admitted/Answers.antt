@@ -1,5 +1,4 @@
 use mathlib.Core.Path.{◌∙◌}
-use borrow.Author.Rules.{rules}
 use Rattle.sheet_text.proofs.admitted.Goals as goal
 
 pub returns-in-Places : goal.returns-in-Places

@@ -1,11 +1,9 @@
-use borrow.Author.Tests.{not-true, not-false}
 use Rattle.sheet_text.proofs.FirstLine.{line-here, line-last}
-use Rattle.sheet_text.proofs.Rest.{Rest, rest-begin, rest-refused, rest-last, rest-on, rest_end, few-parts, few-steps}
+use Rattle.sheet_text.proofs.Rest.{rest-begin, rest-refused, rest-last, rest-on, rest_end, few-parts, few-steps}
 use borrow.Author.Rules.{rules}
 use native.Mathlib.Omega.{arith}
 use mathlib.Core.Path.{refl, sym, ◌∙◌}
-use Prim.Native.Nat.{ℕ, ◌+◌, ◌-◌, ◌≤◌}
-use lib.ListN.{length}
+use Prim.Native.Nat.{ℕ}
 use mathlib.Core.List.{List}
 use Rattle.sheet_text.proofs.first_mistake.Goals as goal
 

@@ -1,12 +1,6 @@
-use borrow.Author.Tests.{not-true, not-false}
-use Rattle.sheet_text.proofs.FirstLine.{line-here, line-last}
-use Rattle.sheet_text.proofs.Rest.{Rest, rest-begin, rest-refused, rest-last, rest-on, rest_end, few-parts, few-steps}
-use borrow.Author.Rules.{rules}
-use native.Mathlib.Omega.{arith}
-use mathlib.Core.Path.{refl, sym, ◌∙◌}
-use Prim.Native.Nat.{ℕ, ◌+◌, ◌-◌, ◌≤◌}
+use Rattle.sheet_text.proofs.Rest.{Rest}
+use Prim.Native.Nat.{◌+◌, ◌-◌, ◌≤◌}
 use lib.ListN.{length}
-use mathlib.Core.List.{List}
 use Rattle.sheet_text.proofs.first_mistake.Given as goal
 
 abbrev pub invariant-loop-at : goal.invariant-loop-at

@@ -1,5 +1,4 @@
 use Rattle.sheet_text.proofs.FirstLine.{slice-take}
-use borrow.Author.Rules.{rules}
 use Rattle.sheet_text.proofs.line_at.Goals as goal
 
 pub returns : goal.returns

@@ -5,7 +5,6 @@ use Rattle.sheet_text.specs.Lines.{line_of}
 use Rattle.sheet_text.proofs.Read.{is-blank, is-places, is-part, is-coupled, is-step}
 use lib.ListN.{drop}
 use mathlib.Core.List.{List}
-use borrow.Author.Rules.{rules}
 use Rattle.sheet_text.proofs.line_of.Goals as goal
 
 pub returns-then-nothing : goal.returns-then-nothing

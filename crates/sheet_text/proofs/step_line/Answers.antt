@@ -5,7 +5,6 @@ use Rattle.sheet_text.specs.Lines.{step_line_of}
 use Rattle.sheet_text.proofs.Read.{is_move, is-before, is-after}
 use lib.ListN.{drop}
 use mathlib.Core.List.{List}
-use borrow.Author.Rules.{rules}
 use Rattle.sheet_text.proofs.step_line.Goals as goal
 
 pub returns-then-moves : goal.returns-then-moves

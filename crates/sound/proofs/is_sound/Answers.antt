@@ -1,5 +1,4 @@
-use borrow.Author.Rules.{rules}
-use borrow.Author.Tests.{not-true, not-false, leb-true}
+use borrow.Author.Tests.{leb-true}
 use mathlib.Core.Path.{◌≡◌, refl, sym, ◌∙◌, subst}
 use mathlib.Core.Bool.{true, false, ◌&&◌}
 use Prim.Native.Nat.{ℕ, ◌≤◌}
@@ -8,13 +7,11 @@ use Rattle.net.specs.Limits.{max_bases}
 use Rattle.net.proofs.Tests.{and_l, and_r}
 use Rattle.format.specs.Parts.{bases_of}
 use Rattle.sheet.proofs.Accepted.{promised}
-use Rattle.marking.specs.declared.Marking.{Marking}
 use Rattle.marking.specs.Form.{in_form, marking_of, laid}
 use Rattle.marking.specs.Held.{holding}
 use Rattle.firings.specs.Lines.{lying, lines_in, firings_of}
 use Rattle.firings.specs.Search.{keys_in}
 use Rattle.firings.specs.Form.{used_in_form, firings_in_form, climbs}
-use Rattle.firings.specs.declared.Firings.{Firings}
 use Rattle.sound.proofs.Tests.{too_many, unsound, by-run, low-sets}
 use Rattle.sound.proofs.is_sound.Goals as goal
 

@@ -1,5 +1,5 @@
 use borrow.Author.Rules.{rules}
-use borrow.Author.Tests.{not-true, not-false, eqb-true}
+use borrow.Author.Tests.{eqb-true}
 use mathlib.Core.Path.{◌≡◌, sym, ◌∙◌, ap}
 use mathlib.Core.Bool.{Bool, true, ◌&&◌}
 use lib.Dec.{eqb}
@@ -9,9 +9,7 @@ use Rattle.net.proofs.Tests.{same-e}
 use Rattle.format.specs.Parts.{bases_of}
 use Rattle.sheet.specs.Checks.{sheet_checks}
 use Rattle.marking.specs.Held.{holding}
-use Rattle.marking.specs.declared.Marking.{Marking}
 use Rattle.firings.specs.Lines.{lying}
-use Rattle.firings.specs.declared.Firings.{Firings}
 use Rattle.sound.specs.Soundness.{sound_in, runs_in, movers_fit}
 use Rattle.sound.proofs.Given.{not-run, live-most, key_below, key_above}
 use Rattle.sound.proofs.Movers.{fit_is}

@@ -1,13 +1,5 @@
 use borrow.Author.Rules.{rules}
 use native.Mathlib.Omega.{arith}
-use mathlib.Core.Path.{◌≡◌}
-use mathlib.Core.List.{List}
-use Prim.Native.Nat.{ℕ, ◌+◌, ◌-◌, ◌≤◌}
-use lib.ListN.{drop}
-use Rattle.net.specs.Limits.{max_bases, max_live}
-use Rattle.words.specs.Sets.{set_of}
-use Rattle.firings.proofs.Lines.{lines}
-use Rattle.spread.specs.Depends.{spread, spread_from}
 use Rattle.spread.proofs.Places.{from_one, from_more, from_end}
 use Rattle.spread.proofs.spread_at.Goals as goal
 

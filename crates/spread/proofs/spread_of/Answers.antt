@@ -1,5 +1,4 @@
 use mathlib.Core.Path.{◌∙◌, ap}
-use borrow.Author.Rules.{rules}
 use Rattle.spread.specs.Spread.{told}
 use Rattle.spread.proofs.Places.{told-live, told-missing}
 use Rattle.spread.proofs.spread_of.Goals as goal

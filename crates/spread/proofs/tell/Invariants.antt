@@ -1,16 +1,11 @@
-use borrow.Author.Rules.{rules}
-use native.Mathlib.Omega.{arith}
-use mathlib.Core.Path.{◌≡◌, refl, ap}
-use mathlib.Core.Bool.{Bool, false}
-use mathlib.Core.List.{List, ◌++◌}
+use mathlib.Core.Path.{◌≡◌}
+use mathlib.Core.List.{◌++◌}
 use Prim.Native.Nat.{◌-◌, ◌≤◌}
-use lib.ListN.{length, drop, length-replicate}
-use Rattle.bonds.proofs.Fill.{fill_end, fill-turn}
+use lib.ListN.{length, drop}
 use Rattle.net.specs.Limits.{max_bases}
 use Rattle.net.specs.Tests.{table}
 use Rattle.net.specs.Firing.{in_set}
 use Rattle.words.specs.Sets.{set_of}
-use Rattle.net.specs.declared.Verdict.TheVariants.{Accepted}
 use Rattle.spread.proofs.tell.Given as goal
 
 abbrev pub invariant-loop-p : goal.invariant-loop-p

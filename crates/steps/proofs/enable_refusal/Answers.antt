@@ -1,17 +1,12 @@
 use mathlib.Core.Path.{◌≡◌, sym, ◌∙◌}
 use mathlib.Core.Bool.{false}
-use mathlib.Core.List.{List}
-use Prim.Native.Nat.{ℕ, ◌<◌}
+use Prim.Native.Nat.{◌<◌}
 use native.Mathlib.Omega.{arith}
-use borrow.Author.Rules.{rules}
-use Rattle.net.specs.Net as Net
-use Rattle.net.specs.Net.{Arcs, arcs_of}
+use Rattle.net.specs.Net.{arcs_of}
 use Rattle.net.specs.Firing.{misplaced, bond_absent, bond_present, torn_apart}
-use Rattle.net.specs.declared.Transition.{Transition}
 use Rattle.format.specs.Parts.{bases_of, transitions_of}
 use Rattle.format.specs.Arcs.{arcs_in}
 use Rattle.format.specs.NetOf.{net_of}
-use Rattle.marking.specs.declared.Marking.{Marking}
 use Rattle.marking.specs.Form.{marking_of}
 use Rattle.marking.specs.Held.{holding}
 use Rattle.enabling.specs.Ready.{Ready}

@@ -1,5 +1,4 @@
 use mathlib.Core.Path.{◌∙◌}
-use borrow.Author.Rules.{rules}
 use Rattle.net.specs.Firing.{undo}
 use Rattle.words.specs.Sets.{set_of}
 use Rattle.marking.specs.declared.Marking.{Marking}

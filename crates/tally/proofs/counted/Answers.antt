@@ -1,6 +1,5 @@
 use borrow.Author.Tests.{eq-eqb, ne_eqb}
 use Rattle.tally.specs.Counts.{counted_of}
-use borrow.Author.Rules.{rules}
 use Rattle.tally.proofs.counted.Goals as goal
 
 pub returns-then-which-eq-FIRED : goal.returns-then-which-eq-FIRED

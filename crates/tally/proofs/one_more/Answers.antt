@@ -1,6 +1,5 @@
 use borrow.Author.Tests.{lt-ltb, le-ltb}
 use Rattle.tally.specs.Counts.{one_more}
-use borrow.Author.Rules.{rules}
 use Rattle.tally.proofs.one_more.Goals as goal
 
 pub returns-then-n-lt-MAX_COUNT : goal.returns-then-n-lt-MAX_COUNT

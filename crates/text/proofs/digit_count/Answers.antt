@@ -1,8 +1,7 @@
 use borrow.Author.Rules.{rules}
 use native.Mathlib.Omega.{arith}
 use mathlib.Core.Path.{sym}
-use Prim.Native.Nat.{◌-◌, ◌≤◌, ◌<◌}
-use Rattle.text.proofs.Loops.{Counted, counted-first, counted-more, counted-all}
+use Rattle.text.proofs.Loops.{counted-first, counted-more, counted-all}
 use Rattle.text.proofs.digit_count.Goals as goal
 
 pub loop-unit-init : goal.loop-unit-init

@@ -1,8 +1,5 @@
-use borrow.Author.Rules.{rules}
-use native.Mathlib.Omega.{arith}
-use mathlib.Core.Path.{sym}
 use Prim.Native.Nat.{◌-◌, ◌≤◌, ◌<◌}
-use Rattle.text.proofs.Loops.{Counted, counted-first, counted-more, counted-all}
+use Rattle.text.proofs.Loops.{Counted}
 use Rattle.text.proofs.digit_count.Given as goal
 
 abbrev pub invariant-loop-unit : goal.invariant-loop-unit

@@ -1,12 +1,8 @@
 use borrow.Author.Rules.{rules}
 use native.Mathlib.Omega.{arith}
-use mathlib.Core.Path.{◌≡◌}
-use Prim.Native.Nat.{◌≤◌}
-use lib.ListN.{length, length-set}
-use lib.Seq.{sets}
-use Rattle.text.specs.Decimal.{digits}
+use lib.ListN.{length-set}
 use Rattle.text.proofs.Digits.{digits-length}
-use Rattle.text.proofs.Loops.{Left, left-all, left-fewer, left-none}
+use Rattle.text.proofs.Loops.{left-all, left-fewer, left-none}
 use Rattle.text.proofs.put_digits.Goals as goal
 
 pub loop-j-init : goal.loop-j-init

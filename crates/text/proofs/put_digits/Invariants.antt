@@ -1,12 +1,9 @@
-use borrow.Author.Rules.{rules}
-use native.Mathlib.Omega.{arith}
 use mathlib.Core.Path.{◌≡◌}
 use Prim.Native.Nat.{◌≤◌}
-use lib.ListN.{length, length-set}
+use lib.ListN.{length}
 use lib.Seq.{sets}
 use Rattle.text.specs.Decimal.{digits}
-use Rattle.text.proofs.Digits.{digits-length}
-use Rattle.text.proofs.Loops.{Left, left-all, left-fewer, left-none}
+use Rattle.text.proofs.Loops.{Left}
 use Rattle.text.proofs.put_digits.Given as goal
 
 abbrev pub invariant-loop-j : goal.invariant-loop-j

@@ -1,10 +1,9 @@
-use lib.Seq.{sets, take-length}
+use lib.Seq.{take-length}
 use Rattle.text.proofs.Writes.{copied_more}
 use borrow.Author.Rules.{rules}
 use native.Mathlib.Omega.{arith}
 use mathlib.Core.Path.{◌≡◌, ◌∙◌}
-use Prim.Native.Nat.{◌+◌, ◌-◌, ◌≤◌}
-use lib.ListN.{length-set, length, take}
+use lib.ListN.{length-set, length}
 use Rattle.text.proofs.put_word.Goals as goal
 
 pub loop-i-preserved : goal.loop-i-preserved

@@ -1,10 +1,7 @@
-use lib.Seq.{sets, take-length}
-use Rattle.text.proofs.Writes.{copied_more}
-use borrow.Author.Rules.{rules}
-use native.Mathlib.Omega.{arith}
-use mathlib.Core.Path.{◌≡◌, ◌∙◌}
+use lib.Seq.{sets}
+use mathlib.Core.Path.{◌≡◌}
 use Prim.Native.Nat.{◌+◌, ◌-◌, ◌≤◌}
-use lib.ListN.{length-set, length, take}
+use lib.ListN.{length, take}
 use Rattle.text.proofs.put_word.Given as goal
 
 abbrev pub invariant-loop-i : goal.invariant-loop-i

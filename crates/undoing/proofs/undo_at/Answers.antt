@@ -1,5 +1,4 @@
 -- the function's start, and what was lent
-use borrow.Author.Rules.{rules}
 use native.Mathlib.Omega.{arith}
 use Rattle.marking.specs.Held.{holding}
 use Rattle.marking.specs.declared.Marking.{Marking}

@@ -2,21 +2,8 @@
 use borrow.Author.Rules.{rules}
 use native.Mathlib.Omega.{arith}
 use mathlib.Core.Path.{◌≡◌, refl}
-use mathlib.Core.List.{List}
-use Prim.Native.Nat.{ℕ}
-use lib.ListN.{length}
 use Rattle.net.specs.declared.Key.{Key}
-use Rattle.format.specs.Parts.{bases_of}
-use Rattle.bonds.specs.Ends.{bonds_in}
-use Rattle.labels.specs.Labelled.{Labelled}
-use Rattle.marking.specs.Held.{holding}
-use Rattle.marking.specs.declared.Marking.{Marking}
-use Rattle.firings.specs.Lines.{lying}
-use Rattle.firings.specs.declared.Firings.{Firings}
-use Rattle.sound.specs.Soundness.{Passed}
-use Rattle.way_back.specs.Search.{Searched}
 use Rattle.way_back.proofs.Turning.{searched-on}
-use Rattle.way_back.proofs.retreat_in.Invariants.{Come}
 use Rattle.way_back.proofs.retreat_in.Goals as goal
 
 pub loop-turns-init : goal.loop-turns-init

@@ -1,7 +1,5 @@
 -- what was lent passes, the layout has a byte for each base, and the search has come as far as m and f with n turns to come
-use borrow.Author.Rules.{rules}
-use native.Mathlib.Omega.{arith}
-use mathlib.Core.Path.{◌≡◌, refl}
+use mathlib.Core.Path.{◌≡◌}
 use mathlib.Core.List.{List}
 use Prim.Native.Nat.{ℕ}
 use lib.ListN.{length}
@@ -15,7 +13,6 @@ use Rattle.firings.specs.Lines.{lying}
 use Rattle.firings.specs.declared.Firings.{Firings}
 use Rattle.sound.specs.Soundness.{Passed}
 use Rattle.way_back.specs.Search.{Searched}
-use Rattle.way_back.proofs.Turning.{searched-on}
 use Rattle.way_back.proofs.retreat_in.Given as goal
 
 abbrev pub Come : List ℕ → List ℕ → Marking → Firings → Marking → Firings → ℕ → Type 0

@@ -1,5 +1,4 @@
 -- `case_tools::tables::last_mover` is safe and ends.
-use borrow.Author.Rules.{rules}
 use Prim.Native.Nat.{◌-◌, ◌≤◌}
 use Rattle.case_tools.proofs.tables.last_mover.Given as goal
 

@@ -1,5 +1,4 @@
 -- `generated::drawn::key_from` meets its contract. The counter stays within its bound.
-use borrow.Author.Rules.{rules}
 use Prim.Native.Nat.{◌-◌, ◌≤◌}
 use Rattle.generated.proofs.drawn.key_from.Given as goal
 

@@ -1,5 +1,4 @@
 -- `generated::rows::find` meets its contract. The position is not before the first.
-use borrow.Author.Rules.{rules}
 use Prim.Native.Nat.{◌-◌, ◌≤◌}
 use Rattle.generated.proofs.rows.find.Given as goal
 

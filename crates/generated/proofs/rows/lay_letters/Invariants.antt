@@ -1,5 +1,4 @@
 -- `generated::rows::lay_letters` is safe and ends. Slices keep their length.
-use borrow.Author.Rules.{rules}
 use mathlib.Core.Path.{◌≡◌}
 use Prim.Native.Nat.{◌-◌}
 use lib.ListN.{length}

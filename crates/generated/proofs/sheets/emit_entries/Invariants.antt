@@ -1,5 +1,4 @@
 -- `generated::sheets::emit_entries` meets its contract. The counter stays within its bound, and lent slices keep their length.
-use borrow.Author.Rules.{rules}
 use mathlib.Core.Path.{◌≡◌}
 use Prim.Native.Nat.{◌-◌, ◌≤◌}
 use lib.ListN.{length}

@@ -1,15 +1,8 @@
-use borrow.Author.Rules.{rules}
-use native.Mathlib.Omega.{arith}
-use mathlib.Core.Path.{◌≡◌, refl, ap, sym, ◌∙◌}
-use Prim.Native.Nat.{ℕ}
-use lib.ListN.{length, set, length-set}
-use mathlib.Core.List.{List}
-use mathlib.Core.Bool.{Bool}
+use mathlib.Core.Path.{◌≡◌}
+use lib.ListN.{length}
 use Rattle.net.specs.Limits.{max_bases}
 use Rattle.words.specs.Sets.{set_of}
-use Rattle.words.proofs.Bits.{set-size}
 use Rattle.movers.specs.Lamp.{marked}
-use Rattle.movers.proofs.Marks.{mark-none, mark-turn}
 use Rattle.movers.proofs.table.mark.Given as goal
 
 abbrev pub invariant-loop-left : goal.invariant-loop-left

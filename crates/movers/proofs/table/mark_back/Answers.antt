@@ -1,12 +1,12 @@
 use borrow.Author.Rules.{rules}
 use native.Mathlib.Omega.{arith}
 use mathlib.Core.Path.{◌≡◌, refl, ap, sym, ◌∙◌}
-use Prim.Native.Nat.{ℕ, suc, ◌-◌, ◌≤◌}
-use lib.ListN.{length, get_or, set}
+use Prim.Native.Nat.{ℕ, suc, ◌-◌}
+use lib.ListN.{length, get_or}
 use mathlib.Core.List.{List}
 use mathlib.Core.Path.{ap₂}
 use mathlib.Core.Bool.{Bool}
-use Rattle.net.specs.Limits.{max_bases, max_live}
+use Rattle.net.specs.Limits.{max_bases}
 use Rattle.words.specs.Sets.{set_of, meet}
 use Rattle.firings.specs.Lines.{lying, firing_at, as_line, lines_in}
 use Rattle.movers.specs.Lamp.{given_back}

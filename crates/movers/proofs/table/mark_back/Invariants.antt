@@ -1,16 +1,11 @@
-use borrow.Author.Rules.{rules}
-use native.Mathlib.Omega.{arith}
-use mathlib.Core.Path.{◌≡◌, refl, ap, sym, ◌∙◌}
-use Prim.Native.Nat.{ℕ, suc, ◌-◌, ◌≤◌}
-use lib.ListN.{length, get_or, set}
+use mathlib.Core.Path.{◌≡◌}
+use Prim.Native.Nat.{ℕ, ◌≤◌}
+use lib.ListN.{length}
 use mathlib.Core.List.{List}
-use mathlib.Core.Path.{ap₂}
-use mathlib.Core.Bool.{Bool}
 use Rattle.net.specs.Limits.{max_bases, max_live}
-use Rattle.words.specs.Sets.{set_of, meet}
-use Rattle.firings.specs.Lines.{lying, firing_at, as_line, lines_in}
+use Rattle.words.specs.Sets.{set_of}
+use Rattle.firings.specs.Lines.{lying, lines_in}
 use Rattle.movers.specs.Lamp.{given_back}
-use Rattle.movers.proofs.Marks.{marked-size, back-turn, back_none}
 use Rattle.movers.proofs.table.mark_back.Given as goal
 
 abbrev pub invariant-loop-i : goal.invariant-loop-i

@@ -1,7 +1,6 @@
 use mathlib.Core.Path.{ap, ◌∙◌}
 use Prim.Native.Nat.{ℕ}
 use mathlib.Core.List.{List}
-use borrow.Author.Rules.{rules}
 use mathlib.Core.Bool.{Bool}
 use Rattle.net.specs.Limits.{max_bases}
 use Rattle.movers.specs.Lamp.{marked}

@@ -1,15 +1,7 @@
-use borrow.Author.Rules.{rules}
-use native.Mathlib.Omega.{arith}
-use mathlib.Core.Path.{◌≡◌, refl, ap, sym, ◌∙◌}
-use Prim.Native.Nat.{ℕ}
-use lib.ListN.{set}
-use mathlib.Core.List.{List}
-use mathlib.Core.Bool.{Bool}
+use mathlib.Core.Path.{◌≡◌}
 use Rattle.net.specs.Limits.{max_bases}
 use Rattle.words.specs.Sets.{set_of}
-use Rattle.words.proofs.Bits.{set-size}
 use Rattle.movers.specs.Lamp.{key_at_all}
-use Rattle.movers.proofs.Marks.{top-none, top-turn, top-off}
 use Rattle.movers.proofs.table.on_top.Given as goal
 
 abbrev pub invariant-loop-rest : goal.invariant-loop-rest

@@ -1,12 +1,10 @@
-use borrow.Author.Rules.{rules}
-use mathlib.Core.Path.{◌≡◌, refl, sym, ◌∙◌}
+use mathlib.Core.Path.{◌≡◌}
 use mathlib.Core.List.{List}
 use Prim.Native.Nat.{ℕ, ◌<◌, ◌≤◌}
 use Rattle.net.specs.Limits.{max_bases, max_live}
 use Rattle.words.specs.Sets.{set_of}
-use Rattle.firings.specs.Lines.{lying, firing_at, as_line, lines_in}
+use Rattle.firings.specs.Lines.{lying, lines_in}
 use Rattle.movers.specs.Lamp.{given_back}
-use Rattle.movers.proofs.Marks.{back-passed}
 use Rattle.movers.proofs.table.pass_four.Given as goal
 
 abbrev pub invariant-loop-i : goal.invariant-loop-i

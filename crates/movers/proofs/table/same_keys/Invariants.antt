@@ -1,13 +1,9 @@
-use borrow.Author.Rules.{rules}
-use native.Mathlib.Omega.{arith}
-use mathlib.Core.Path.{◌≡◌, refl, ap, sym, ◌∙◌}
-use Prim.Native.Nat.{ℕ, ◌-◌, ◌≤◌}
+use mathlib.Core.Path.{◌≡◌}
+use Prim.Native.Nat.{◌-◌, ◌≤◌}
 use lib.ListN.{length}
-use lib.Dec.{eqb}
 use Rattle.net.specs.Tests.{all, table}
-use Rattle.net.proofs.Tables.{all_more}
 use Rattle.marking.proofs.Sets.{self}
-use Rattle.marking_form.proofs.Same.{same_at, same_lists}
+use Rattle.marking_form.proofs.Same.{same_at}
 use Rattle.movers.proofs.table.same_keys.Given as goal
 
 abbrev pub invariant-loop-p : goal.invariant-loop-p

@@ -1,5 +1,4 @@
 -- `oracle::forward::used` meets its contract. The counter stays within its bound.
-use borrow.Author.Rules.{rules}
 use Prim.Native.Nat.{◌-◌, ◌≤◌}
 use Rattle.oracle.proofs.forward.used.Given as goal
 

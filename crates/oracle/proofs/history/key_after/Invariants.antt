@@ -1,5 +1,4 @@
 -- `oracle::history::key_after` meets its contract. The counter stays within its bound.
-use borrow.Author.Rules.{rules}
 use Prim.Native.Nat.{◌-◌, ◌≤◌}
 use Rattle.oracle.proofs.history.key_after.Given as goal
 

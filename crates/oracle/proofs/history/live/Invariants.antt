@@ -1,5 +1,4 @@
 -- `oracle::history::live` meets its contract. The counter stays within its bound.
-use borrow.Author.Rules.{rules}
 use Prim.Native.Nat.{◌-◌, ◌≤◌}
 use Rattle.oracle.proofs.history.live.Given as goal
 

@@ -1,5 +1,4 @@
 -- `oracle::history::slot_of` meets its contract. The counter stays within its bound.
-use borrow.Author.Rules.{rules}
 use Prim.Native.Nat.{◌-◌, ◌≤◌}
 use Rattle.oracle.proofs.history.slot_of.Given as goal
 

@@ -1,5 +1,4 @@
 -- `oracle::reader::arc_bases` meets its contract. The counter stays within its bound.
-use borrow.Author.Rules.{rules}
 use Prim.Native.Nat.{◌-◌, ◌≤◌}
 use Rattle.oracle.proofs.reader.arc_bases.Given as goal
 

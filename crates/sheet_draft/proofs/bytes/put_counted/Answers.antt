@@ -3,7 +3,6 @@ use Rattle.sheet_draft.specs.Bytes.{tagged}
 use native.Mathlib.Omega.{arith}
 use Prim.Native.Nat.{suc, ◌+◌, ◌≤◌}
 use lib.ListN.{length}
-use borrow.Author.Rules.{rules}
 use Rattle.sheet_draft.proofs.bytes.put_counted.Goals as goal
 
 pub put_word-a-requires : goal.put_word-a-requires

@@ -1,10 +1,7 @@
-use Rattle.sheet_draft.proofs.Writing.{joined-upto, all-pairs, pairs-written, joined-length-more}
-use Rattle.sheet_draft.specs.Bytes.{stretch_at, stretches_in}
-use Rattle.text.proofs.Writes.{Written, written_none, written-pair}
+use Rattle.sheet_draft.specs.Bytes.{stretches_in}
+use Rattle.text.proofs.Writes.{Written}
 use Rattle.encode.specs.Encoding.{pairs}
 use Rattle.text.specs.Joined.{joined}
-use borrow.Author.Rules.{rules}
-use native.Mathlib.Omega.{arith}
 use mathlib.Core.Path.{◌≡◌}
 use Prim.Native.Nat.{◌+◌, ◌-◌, ◌*◌, ◌≤◌}
 use lib.ListN.{length}

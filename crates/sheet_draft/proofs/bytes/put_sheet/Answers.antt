@@ -1,6 +1,5 @@
 use Prim.Native.Nat.{◌+◌, ◌*◌}
 use Rattle.sheet_draft.proofs.Writing.{all-pairs, sheet-length, sheet-written}
-use borrow.Author.Rules.{rules}
 use native.Mathlib.Omega.{arith}
 use Rattle.sheet_draft.proofs.bytes.put_sheet.Goals as goal
 

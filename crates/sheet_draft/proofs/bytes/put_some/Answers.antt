@@ -1,7 +1,6 @@
 use Rattle.sheet_draft.proofs.Tagged.{bytes-length}
 use native.Mathlib.Omega.{arith}
 use mathlib.Core.Path.{sym}
-use borrow.Author.Rules.{rules}
 use Rattle.sheet_draft.proofs.bytes.put_some.Goals as goal
 
 pub slice_bounds-put_word-end : goal.slice_bounds-put_word-end

@@ -1,7 +1,7 @@
 use Rattle.sheet_draft.proofs.Writing.{stretch-first, stretch-second, stretch-step, fits-step}
 use native.Mathlib.Omega.{arith}
 use mathlib.Core.Path.{ap}
-use lib.ListN.{length, take}
+use lib.ListN.{length}
 use borrow.Author.Rules.{rules}
 use Rattle.sheet_draft.proofs.bytes.put_stretch.Goals as goal
 

@@ -1,13 +1,10 @@
 use Rattle.sheet_draft.proofs.Writing.{joined-upto}
-use Rattle.sheet_draft.specs.Bytes.{AllFit, stretch_at, stretches_in}
+use Rattle.sheet_draft.specs.Bytes.{stretch_at}
 use Rattle.text.proofs.Joined.{table-written}
-use Rattle.text.proofs.Writes.{Written, written_none, written-pair}
-use Rattle.text.specs.Joined.{joined}
+use Rattle.text.proofs.Writes.{written_none, written-pair}
 use borrow.Author.Rules.{rules}
 use native.Mathlib.Omega.{arith}
 use mathlib.Core.Path.{◌≡◌}
-use Prim.Native.Nat.{◌+◌, ◌-◌, ◌≤◌}
-use lib.ListN.{length}
 use Rattle.sheet_draft.proofs.bytes.put_stretches.Goals as goal
 
 pub loop-j-init : goal.loop-j-init

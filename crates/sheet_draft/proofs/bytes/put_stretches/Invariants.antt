@@ -1,10 +1,6 @@
-use Rattle.sheet_draft.proofs.Writing.{joined-upto}
-use Rattle.sheet_draft.specs.Bytes.{AllFit, stretch_at, stretches_in}
-use Rattle.text.proofs.Joined.{table-written}
-use Rattle.text.proofs.Writes.{Written, written_none, written-pair}
+use Rattle.sheet_draft.specs.Bytes.{AllFit, stretches_in}
+use Rattle.text.proofs.Writes.{Written}
 use Rattle.text.specs.Joined.{joined}
-use borrow.Author.Rules.{rules}
-use native.Mathlib.Omega.{arith}
 use mathlib.Core.Path.{◌≡◌}
 use Prim.Native.Nat.{◌+◌, ◌-◌, ◌≤◌}
 use lib.ListN.{length}

@@ -1,10 +1,5 @@
-use Rattle.sheet_draft.proofs.Writing.{tagged-written}
-use lib.Seq.{take_all}
-use Rattle.sheet_draft.proofs.Tagged.{room-one}
 use Rattle.sheet_draft.specs.Bytes.{tagged}
-use Rattle.text.proofs.Writes.{Written, written_none, written-pair}
-use borrow.Author.Rules.{rules}
-use native.Mathlib.Omega.{arith}
+use Rattle.text.proofs.Writes.{Written}
 use mathlib.Core.Path.{◌≡◌}
 use Prim.Native.Nat.{◌+◌, ◌-◌, ◌≤◌}
 use lib.ListN.{length, take}

@@ -1,6 +1,5 @@
 use Rattle.sheet_draft.proofs.Writing.{step-length}
 use native.Mathlib.Omega.{arith}
-use borrow.Author.Rules.{rules}
 use Rattle.sheet_draft.proofs.bytes.step_size.Goals as goal
 
 pub returns : goal.returns

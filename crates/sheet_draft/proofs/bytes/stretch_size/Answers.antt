@@ -1,7 +1,6 @@
 use Rattle.sheet_draft.proofs.Writing.{stretch-first, stretch-second, stretch-step}
 use mathlib.Core.Path.{ap, sym, ◌∙◌}
-use lib.ListN.{length, take}
-use borrow.Author.Rules.{rules}
+use lib.ListN.{length}
 use Rattle.sheet_draft.proofs.bytes.stretch_size.Goals as goal
 
 pub returns-then-j-eq0 : goal.returns-then-j-eq0

@@ -3,7 +3,6 @@ use Rattle.sheet_draft.proofs.Tagged.{count-upto, tagged-length}
 use native.Mathlib.Omega.{arith}
 use mathlib.Core.Path.{ap, sym, ◌∙◌}
 use Prim.Native.Nat.{ℕ, ◌*◌}
-use borrow.Author.Rules.{rules}
 use Rattle.sheet_draft.proofs.bytes.tagged_size.Goals as goal
 
 pub overflow_mul-result : goal.overflow_mul-result

@@ -3,9 +3,9 @@ use borrow.Author.Rules.{rules}
 use lib.Seq.{take_all}
 use Rattle.sheet_draft.specs.Bytes.{count_of}
 use native.Mathlib.Omega.{arith}
-use mathlib.Core.Path.{◌≡◌, refl, ap, ◌∙◌}
-use Prim.Native.Nat.{◌-◌, ◌≤◌}
-use lib.ListN.{length, get_or, take}
+use mathlib.Core.Path.{refl, ap, ◌∙◌}
+use Prim.Native.Nat.{◌≤◌}
+use lib.ListN.{length, get_or}
 use Rattle.sheet_draft.proofs.counts.count_of.Goals as goal
 
 pub loop-i-init : goal.loop-i-init

@@ -1,11 +1,7 @@
-use Rattle.sheet_draft.proofs.Tagged.{count-more, width-upto}
-use borrow.Author.Rules.{rules}
-use lib.Seq.{take_all}
 use Rattle.sheet_draft.specs.Bytes.{count_of}
-use native.Mathlib.Omega.{arith}
-use mathlib.Core.Path.{◌≡◌, refl, ap, ◌∙◌}
+use mathlib.Core.Path.{◌≡◌}
 use Prim.Native.Nat.{◌-◌, ◌≤◌}
-use lib.ListN.{length, get_or, take}
+use lib.ListN.{length, take}
 use Rattle.sheet_draft.proofs.counts.count_of.Given as goal
 
 abbrev pub invariant-loop-i : goal.invariant-loop-i

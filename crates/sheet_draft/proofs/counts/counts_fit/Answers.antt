@@ -1,7 +1,6 @@
 use Rattle.sheet_draft.specs.Bytes.{counts_fit}
 use Rattle.sheet_draft.proofs.Sheet.{byte, three-tests}
 use mathlib.Core.Path.{ap, ◌∙◌}
-use borrow.Author.Rules.{rules}
 use Rattle.sheet_draft.proofs.counts.counts_fit.Goals as goal
 
 pub returns : goal.returns

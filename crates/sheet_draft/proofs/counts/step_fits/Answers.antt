@@ -1,6 +1,5 @@
 use Rattle.sheet_draft.proofs.Sheet.{byte, three-tests}
 use mathlib.Core.Path.{ap, ◌∙◌}
-use borrow.Author.Rules.{rules}
 use Rattle.sheet_draft.proofs.counts.step_fits.Goals as goal
 
 pub returns : goal.returns

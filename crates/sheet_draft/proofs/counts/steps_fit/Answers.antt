@@ -1,11 +1,9 @@
 use mathlib.Core.Bool.{◌&&◌}
 use Rattle.sheet_draft.specs.Bytes.{step_fits}
 use Rattle.net.proofs.Tables.{all_more}
-use Rattle.net.specs.Tests.{all, table}
 use borrow.Author.Rules.{rules}
 use native.Mathlib.Omega.{arith}
 use mathlib.Core.Path.{◌≡◌, refl, sym, ◌∙◌}
-use Prim.Native.Nat.{◌-◌, ◌≤◌}
 use Rattle.sheet_draft.proofs.counts.steps_fit.Goals as goal
 
 pub loop-k-init : goal.loop-k-init

@@ -1,10 +1,6 @@
-use mathlib.Core.Bool.{◌&&◌}
 use Rattle.sheet_draft.specs.Bytes.{step_fits}
-use Rattle.net.proofs.Tables.{all_more}
 use Rattle.net.specs.Tests.{all, table}
-use borrow.Author.Rules.{rules}
-use native.Mathlib.Omega.{arith}
-use mathlib.Core.Path.{◌≡◌, refl, sym, ◌∙◌}
+use mathlib.Core.Path.{◌≡◌}
 use Prim.Native.Nat.{◌-◌, ◌≤◌}
 use Rattle.sheet_draft.proofs.counts.steps_fit.Given as goal
 

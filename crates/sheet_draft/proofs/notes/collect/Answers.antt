@@ -1,10 +1,8 @@
 use lib.ListN.{length-set}
-use Rattle.sheet_draft.proofs.Lines.{Sofar, sofar-begin, sofar-on, note-small, too_large, collected, refused}
+use Rattle.sheet_draft.proofs.Lines.{sofar-begin, sofar-on, note-small, too_large, collected, refused}
 use borrow.Author.Rules.{rules}
 use native.Mathlib.Omega.{arith}
-use mathlib.Core.Path.{◌≡◌, refl}
-use Prim.Native.Nat.{◌+◌, ◌-◌}
-use lib.ListN.{length, take}
+use mathlib.Core.Path.{refl}
 use Rattle.sheet_draft.proofs.notes.collect.Goals as goal
 
 pub loop-at-init : goal.loop-at-init

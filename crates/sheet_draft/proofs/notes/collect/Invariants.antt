@@ -1,10 +1,7 @@
-use lib.ListN.{length-set}
-use Rattle.sheet_draft.proofs.Lines.{Sofar, sofar-begin, sofar-on, note-small, too_large, collected, refused}
-use borrow.Author.Rules.{rules}
-use native.Mathlib.Omega.{arith}
-use mathlib.Core.Path.{◌≡◌, refl}
+use Rattle.sheet_draft.proofs.Lines.{Sofar}
+use mathlib.Core.Path.{◌≡◌}
 use Prim.Native.Nat.{◌+◌, ◌-◌}
-use lib.ListN.{length, take}
+use lib.ListN.{length}
 use Rattle.sheet_draft.proofs.notes.collect.Given as goal
 
 abbrev pub invariant-loop-at : goal.invariant-loop-at

@@ -1,5 +1,4 @@
 use mathlib.Core.Path.{◌∙◌}
-use borrow.Author.Rules.{rules}
 use Rattle.sheet_draft.proofs.notes.note_of.Goals as goal
 
 pub returns-in-Blank : goal.returns-in-Blank
