@@ -1,17 +1,16 @@
 -- The listing asked of a record: by the journal that it holds, whose commands the record's are.
 -- Assumes nothing.
 use mathlib.Core.Path.{◌≡◌, refl, sym, ◌∙◌, ap, subst}
-use mathlib.Core.Bool.{Bool, true, false, not, ◌&&◌}
+use mathlib.Core.Bool.{Bool, true, false}
 use mathlib.Core.List.{List, [], ◌∷◌, map}
 use Prim.Native.Nat.{ℕ, suc, ◌-◌}
 use lib.ListN.{length, replicate}
 use lib.Seq.{take_at}
-use Rattle.causal.proofs.Tests.{both}
 use Rattle.net.specs.Limits.{max_live}
 use Rattle.net.specs.Tests.{pick}
-use Rattle.net.specs.Checks.{check, clear, first}
+use Rattle.net.specs.Checks.{clear, first}
 use Rattle.net.specs.Rules.{net_rule}
-use Rattle.net.specs.Journal.{LiveLine, Journal, transition, begin, play}
+use Rattle.net.specs.Journal.{LiveLine, Journal, transition}
 use Rattle.net.specs.Claims.{fire_command, fire_commands}
 use Rattle.net.specs.declared.Transition.{Transition}
 use Rattle.net.proofs.Keys.{up-distinct}

@@ -34,7 +34,6 @@ use Rattle.session.specs.Records.{held_in, sound_for}
 use Rattle.session.specs.Commands.{fresh_of}
 use Rattle.session.specs.Runs.{Answered, answered}
 use Rattle.session.specs.declared.Record.{Record}
-use Rattle.commands.specs.declared.Answer.{Answer}
 use Rattle.session.proofs.Steps.{held_back, follows-fresh}
 use Rattle.claims.specs.Sessions.{session_after}
 use Rattle.claims.specs.States.{marks_in, history_in, order_in}

@@ -8,7 +8,6 @@ use Prim.Native.Nat.{ℕ}
 use native.Mathlib.Omega.{arith}
 use Rattle.causal.specs.Lists.{Mem}
 use Rattle.net.specs.Checks.{clear}
-use Rattle.net.specs.Net.{Net}
 use Rattle.net.specs.Rules.{net_rule}
 use Rattle.net.specs.Journal as J
 use Rattle.net.specs.Journal.{Journal, is_live, begin, act, play, answers}

@@ -11,7 +11,7 @@ use Rattle.net.specs.Limits.{max_bases}
 use Rattle.net.specs.Checks.{Check, check, clear, first, verdict_number}
 use Rattle.net.specs.Firing.{in_set}
 use Rattle.net.specs.Connection.{Leads, connected}
-use Rattle.net.specs.Journal.{LiveLine, key, kind_of, transition_named, key_named, fire_reply, undo_reply, begin, answers}
+use Rattle.net.specs.Journal.{LiveLine, kind_of, transition_named, key_named, fire_reply, undo_reply, begin, answers}
 use Rattle.net.specs.History.{lines_in_form}
 use Rattle.net.specs.Claims.{Totals}
 use Rattle.net.specs.declared.Bond.{Bond}

@@ -3,7 +3,7 @@
 use mathlib.Core.Path.{◌≡◌, refl, sym, ap, ◌∙◌, subst}
 use mathlib.Core.Bool.{true}
 use mathlib.Core.List.{List, [], ◌∷◌, ◌++◌, map}
-use Prim.Native.Nat.{ℕ, suc, ◌+◌, ◌<◌, ◌≤◌}
+use Prim.Native.Nat.{ℕ, suc, ◌<◌, ◌≤◌}
 use native.Mathlib.Omega.{arith}
 use native.Mathlib.Nat.{zero-add}
 use lib.ListN.{length, get_or, drop, length-map, get_or-append}
@@ -31,7 +31,7 @@ use Rattle.sound.proofs.Holds.{live-few}
 use Rattle.session.specs.Records.{held_in, record_of, Sound}
 use Rattle.session.specs.Commands.{fresh_of}
 use Rattle.commands.specs.Answers.{answer_of, key_of, word_of, value_of}
-use Rattle.session.specs.Runs.{answered, Answered, Session, run_of}
+use Rattle.session.specs.Runs.{answered, Answered, Session}
 use Rattle.session.specs.declared.Record.{Record}
 use Rattle.session.proofs.Steps.{follows-fresh, held_back}
 use Rattle.session.proofs.Begins.{fresh-sound}

@@ -14,7 +14,6 @@ use Rattle.net.proofs.Tests.{all_append}
 use Rattle.format.specs.NetOf.{net_of}
 use Rattle.sheet.specs.Checks.{sheet_checks}
 use Rattle.sheet.proofs.Order.{clear_first}
-use Rattle.commands.specs.declared.Answer as S
 use Rattle.session.specs.declared.Record.{Record}
 use Rattle.session.specs.declared.Outcome.{Outcome}
 use Rattle.session.specs.Records.{held_in, sound_for}

@@ -18,14 +18,14 @@ use Rattle.tally.specs.Counts.{counted_of}
 use Rattle.tally.specs.declared.Tally.{Tally}
 use Rattle.commands.specs.Answers.{word_of, value_of}
 use Rattle.runs.specs.declared.Held as Struct
-use Rattle.runs.specs.Running.{said_word, said_value, tallied, RanOn}
+use Rattle.runs.specs.Running.{said_word, tallied, RanOn}
 use Rattle.session.specs.declared.Record.{Record}
 use Rattle.session.specs.declared.Outcome.{Outcome}
 use Rattle.session.specs.Records.{held_in, record_of, Sound}
 use Rattle.session.specs.Lent.{record_with}
 use Rattle.session.specs.Commands.{Result, outcome_of, command_of}
 use Rattle.session.specs.Runs.{Answered, answered, Session, run_of}
-use Rattle.session.specs.Lists.{words_of, values_of, ran_of, RunGives}
+use Rattle.session.specs.Lists.{ran_of, RunGives}
 use Rattle.session.proofs.Steps.{step, outcome-is, follows}
 use Rattle.session.proofs.Stays.{command-sound, holds, laid_out}
 

@@ -23,7 +23,6 @@ use Rattle.session.proofs.Steps.{held_back, held-sound, follows-fresh}
 use Rattle.why.specs.Why.{reason_for, why_of}
 use Rattle.why.specs.Turned.{Turned}
 use Rattle.why.specs.declared.Reason.{Reason}
-use Rattle.why.specs.declared.Reason.TheVariants as Reason
 use Rattle.why.proofs.Numbers.{sheet-low, act-refused, first-own}
 
 sheet-reason : (net : Net) (j : Journal) (c : List ℕ) (n : ℕ) → (n ≡ 0 → ⊥) → n < 10 → Reason.Sheet ≡ reason_for net j c n

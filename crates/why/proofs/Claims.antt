@@ -34,7 +34,6 @@ use Rattle.reasons.proofs.Named.{away-holds, absent-holds, present-holds, torn-h
 use Rattle.why.specs.Why.{no_entry, away_entry, absent_bond, present_bond, torn_entry, partner_of, later_place, later_part, away_by, absent_by, present_by, torn_by, later_by, reason_for, why_of}
 use Rattle.why.specs.Claims.{IsAway, IsAbsent, IsPresent, IsTorn, CameAfter, step_of, RefusedBy, Named}
 use Rattle.why.specs.declared.Reason.{Reason}
-use Rattle.why.specs.declared.Reason.TheVariants as Reason
 use Rattle.why.proofs.Numbers.{sheet-low, first-sheet, first-record, first-own, act-refused}
 use Rattle.why.proofs.Answers.{why-by}
 use Rattle.why.proofs.Latest.{came}

@@ -17,7 +17,6 @@ use Rattle.session.specs.Commands.{fresh_of}
 use Rattle.session.specs.Runs.{run_of}
 use Rattle.why.specs.Why.{reason_for, why_of}
 use Rattle.why.specs.declared.Reason.{Reason}
-use Rattle.why.specs.declared.Reason.TheVariants as Reason
 use Rattle.why.proofs.Answers.{why-session}
 
 accepted : clear (sheet_checks sheet_b) ≡ true

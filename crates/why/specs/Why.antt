@@ -15,7 +15,6 @@ use Rattle.session.specs.Commands.{command_checks}
 use Rattle.session.specs.declared.Record.{Record}
 use Rattle.reasons.specs.Reasons.{away_from, absent_from, present_in, torn_from, has_partner, later_at, common_at}
 use Rattle.why.specs.declared.Reason.{Reason}
-use Rattle.why.specs.declared.Reason.TheVariants as Reason
 
 -- ---- What a reason names. No command that is refused by the number names what is past the end of a list (Claims).
 

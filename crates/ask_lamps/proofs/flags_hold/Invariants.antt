@@ -1,5 +1,4 @@
 -- `ask_lamps::flags_hold` is safe and ends. The counter stays within its bound, and slices keep their length.
-use borrow.Author.Rules.{rules}
 use Prim.Native.Nat.{◌-◌, ◌≤◌}
 use Rattle.ask_lamps.proofs.flags_hold.Given as goal
 

@@ -1,5 +1,4 @@
 -- `ask_spread::set_of` is safe and ends. The counter stays within its bound, and slices keep their length.
-use borrow.Author.Rules.{rules}
 use Prim.Native.Nat.{◌-◌, ◌≤◌}
 use Rattle.ask_spread.proofs.set_of.Given as goal
 

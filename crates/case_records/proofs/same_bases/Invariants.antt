@@ -1,5 +1,4 @@
 -- `case_records::same_bases` is safe and ends. The counter stays within its bound.
-use borrow.Author.Rules.{rules}
 use Prim.Native.Nat.{◌-◌, ◌≤◌}
 use Rattle.case_records.proofs.same_bases.Given as goal
 

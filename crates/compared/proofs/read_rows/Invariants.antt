@@ -1,5 +1,4 @@
 -- `compared::read_rows` is safe and ends. Lent slices keep their length.
-use borrow.Author.Rules.{rules}
 use mathlib.Core.Path.{◌≡◌}
 use Prim.Native.Nat.{◌-◌, ◌≤◌}
 use lib.ListN.{length}

@@ -1,5 +1,4 @@
 -- `desk::take_all` is safe and ends.
-use borrow.Author.Rules.{rules}
 use Prim.Native.Nat.{◌-◌}
 use Rattle.desk.proofs.take_all.Given as goal
 

@@ -1,13 +1,9 @@
-use borrow.Author.Rules.{rules}
-use native.Mathlib.Omega.{arith}
-use mathlib.Core.Path.{◌≡◌, refl, ◌∙◌}
+use mathlib.Core.Path.{◌≡◌}
 use mathlib.Core.List.{◌++◌}
 use Prim.Native.Nat.{◌-◌, ◌≤◌}
 use lib.ListN.{length, get_or, drop}
 use Rattle.net.specs.Limits.{max_bases}
 use Rattle.net.specs.Tests.{table}
-use Rattle.net.proofs.Tables.{table-list}
-use Rattle.bonds.proofs.Fill.{fill-turn, fill_end}
 use Rattle.final_lines.proofs.widened.Given as goal
 
 abbrev pub invariant-loop-i : goal.invariant-loop-i

@@ -1,4 +1,3 @@
-use borrow.Author.Rules.{rules}
 use Rattle.command_list.proofs.Parts.{no_part, cut-part, whole_part}
 use Rattle.output.proofs.bytes_from.Goals as goal
 

@@ -1,5 +1,4 @@
 -- the bytes from a position on, where the position has another name; over any numbers, so that none of the limit's is computed
-use borrow.Author.Rules.{rules}
 use mathlib.Core.Path.{◌≡◌, ap, ◌∙◌}
 use mathlib.Core.List.{List}
 use Prim.Native.Nat.{ℕ, ◌+◌, ◌*◌}

@@ -1,4 +1,3 @@
-use borrow.Author.Rules.{rules}
 use native.Mathlib.Omega.{arith}
 use Rattle.text.proofs.Digits.{digits-length}
 use Rattle.output.proofs.Answers.{refused-pieces}

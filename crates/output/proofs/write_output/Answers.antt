@@ -1,4 +1,3 @@
-use borrow.Author.Rules.{rules}
 use Rattle.output.proofs.Starts.{start-accepted, start-refused, few_bytes, written-accepted, written-refused}
 use Rattle.output.proofs.write_output.Goals as goal
 

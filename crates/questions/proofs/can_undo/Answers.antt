@@ -1,4 +1,3 @@
-use borrow.Author.Rules.{rules}
 use mathlib.Core.Path.{◌∙◌}
 use Rattle.sound.proofs.Holds.{live-few, keys-rise}
 use Rattle.questions.proofs.LampsAsked.{lamp-refused, lamp-asked}

@@ -1,4 +1,3 @@
-use borrow.Author.Rules.{rules}
 use Rattle.sound.proofs.Holds.{keys-rise}
 use Rattle.questions.proofs.LampsAsked.{lamps-refused, lamps-shown}
 use Rattle.questions.proofs.lamps.Goals as goal

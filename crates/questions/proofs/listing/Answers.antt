@@ -1,4 +1,3 @@
-use borrow.Author.Rules.{rules}
 use Rattle.sound.proofs.Holds.{live-few, firings-sized}
 use Rattle.questions.proofs.ListingAsked.{listing-refused, listing-asked}
 use Rattle.questions.proofs.listing.Goals as goal

@@ -1,4 +1,3 @@
-use borrow.Author.Rules.{rules}
 use Rattle.questions.proofs.LiveAsked.{list-refused, list-given}
 use Rattle.questions.proofs.live_firings.Goals as goal
 

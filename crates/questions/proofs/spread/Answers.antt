@@ -1,4 +1,3 @@
-use borrow.Author.Rules.{rules}
 use Rattle.sound.proofs.Holds.{live-few, keys-rise}
 use Rattle.questions.proofs.SpreadAsked.{spread-refused, spread-asked}
 use Rattle.questions.proofs.spread.Goals as goal

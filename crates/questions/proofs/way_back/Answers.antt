@@ -1,4 +1,3 @@
-use borrow.Author.Rules.{rules}
 use mathlib.Core.Path.{◌∙◌}
 use Rattle.questions.proofs.WayAsked.{way-refused, way_asked, way-number}
 use Rattle.questions.proofs.way_back.Goals as goal

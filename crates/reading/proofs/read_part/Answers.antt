@@ -1,6 +1,4 @@
-use borrow.Author.Rules.{rules}
 use native.Mathlib.Omega.{arith}
-use Prim.Native.Nat.{◌-◌}
 use Rattle.reading.proofs.Rooms.{front-stays, part_length}
 use Rattle.reading.proofs.read_part.Goals as goal
 

@@ -1,11 +1,6 @@
-use borrow.Author.Rules.{rules}
-use native.Mathlib.Omega.{arith}
-use mathlib.Core.Path.{◌≡◌, refl, ◌∙◌}
-use mathlib.Core.Bool.{false}
+use mathlib.Core.Path.{◌≡◌}
 use Prim.Native.Nat.{◌-◌, ◌≤◌}
 use lib.ListN.{length, take}
-use Rattle.causal.proofs.Tests.{both}
-use Rattle.output.proofs.Input.{take_less}
 use Rattle.reading.proofs.read_to.Given as goal
 
 abbrev pub invariant-loop-at : goal.invariant-loop-at

@@ -3,16 +3,14 @@ use borrow.Author.Rules.{rules}
 use native.Mathlib.Omega.{arith}
 use mathlib.Core.Path.{◌≡◌, refl, ap, ◌∙◌}
 use mathlib.Core.List.{List}
-use Prim.Native.Nat.{ℕ, ◌-◌, ◌*◌, ◌<◌, ◌≤◌}
-use lib.ListN.{length-set, length, take, drop}
-use Rattle.bonds.specs.Ends.{bonds_in}
-use Rattle.labels.specs.Labelled.{Labelled}
+use Prim.Native.Nat.{ℕ}
+use lib.ListN.{length-set, take, drop}
 use Rattle.replaying.proofs.Lines.{placed-fits, placed-ends}
 use Rattle.sound.proofs.Holds.{placed}
 use Rattle.command_list.specs.Commands.{how_many}
 use Rattle.runs.specs.Running.{held_at}
 use Rattle.runs.specs.declared.Held.{Held}
-use Rattle.runs.proofs.Turns.{Upto, upto-none, upto-kept, upto-more, upto_all}
+use Rattle.runs.proofs.Turns.{upto-none, upto-kept, upto-more, upto_all}
 use Rattle.runs.proofs.run_on.Goals as goal
 use Rattle.runs.proofs.run_on.Goals.{After-step_in-done, At-loop-at, Start}
 

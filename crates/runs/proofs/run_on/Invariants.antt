@@ -1,18 +1,12 @@
 -- the labels are those of the bonds, and all is as after the first i commands; what was held at the start is sound
-use borrow.Author.Rules.{rules}
-use native.Mathlib.Omega.{arith}
-use mathlib.Core.Path.{◌≡◌, refl, ap, ◌∙◌}
-use mathlib.Core.List.{List}
-use Prim.Native.Nat.{ℕ, ◌-◌, ◌*◌, ◌<◌, ◌≤◌}
-use lib.ListN.{length-set, length, take, drop}
+use mathlib.Core.Path.{◌≡◌}
+use Prim.Native.Nat.{◌-◌, ◌*◌, ◌<◌, ◌≤◌}
+use lib.ListN.{length}
 use Rattle.bonds.specs.Ends.{bonds_in}
 use Rattle.labels.specs.Labelled.{Labelled}
-use Rattle.replaying.proofs.Lines.{placed-fits, placed-ends}
-use Rattle.sound.proofs.Holds.{placed}
 use Rattle.command_list.specs.Commands.{how_many}
 use Rattle.runs.specs.Running.{held_at}
-use Rattle.runs.specs.declared.Held.{Held}
-use Rattle.runs.proofs.Turns.{Upto, upto-none, upto-kept, upto-more, upto_all}
+use Rattle.runs.proofs.Turns.{Upto}
 use Rattle.runs.proofs.run_on.Given as goal
 
 abbrev pub invariant-loop-at : goal.invariant-loop-at

@@ -1,9 +1,5 @@
 -- what the arrays hold after the command
 use mathlib.Core.Path.{refl}
-use borrow.Author.Rules.{rules}
-use Rattle.net.specs.Journal.{act}
-use Rattle.format.specs.Parts.{bases_of}
-use Rattle.format.specs.NetOf.{net_of}
 use Rattle.marking.specs.declared.Marking.{Marking}
 use Rattle.marking.specs.Held.{holding}
 use Rattle.firings.specs.declared.Firings.{Firings}

@@ -1,9 +1,7 @@
 use mathlib.Core.Path.{sym, ◌∙◌}
-use Prim.Native.Nat.{◌-◌}
 use Rattle.replaying.proofs.Starts.{start_fits}
 use Rattle.sound.proofs.Refusing.{sheet-clear}
 use Rattle.session_start.proofs.Starting.{refused, started}
-use borrow.Author.Rules.{rules}
 use Rattle.session_start.proofs.start.Goals as goal
 
 pub returns-then-refusal-ne0 : goal.returns-then-refusal-ne0

@@ -1,4 +1,3 @@
-use borrow.Author.Rules.{rules}
 use mathlib.Core.Path.{ap, ◌∙◌}
 use Rattle.net.specs.Journal.{key, highest_live, number_of}
 use Rattle.format.specs.Parts.{bases_of}

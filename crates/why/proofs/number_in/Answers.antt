@@ -1,4 +1,3 @@
-use borrow.Author.Rules.{rules}
 use mathlib.Core.Path.{ap, sym}
 use Rattle.commands.specs.Answers.{answer_number}
 use Rattle.why.proofs.number_in.Goals as goal

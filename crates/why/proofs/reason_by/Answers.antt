@@ -9,7 +9,6 @@ use Rattle.why.specs.Why.{reason_for}
 use Rattle.why.specs.declared.Reason.{Reason}
 use Rattle.why.proofs.Answers.{turned}
 use Rattle.why.proofs.Numbers.{own-last}
-use Rattle.why.specs.declared.Reason.TheVariants as Reason
 use Rattle.why.proofs.reason_by.Goals as goal
 use Rattle.why.proofs.reason_by.Goals.{Start}
 

@@ -1,4 +1,3 @@
-use borrow.Author.Rules.{rules}
 use mathlib.Core.Path.{◌∙◌}
 use Rattle.sound.proofs.Refusing.{kept-is}
 use Rattle.session.specs.Records.{Sound}

@@ -1,5 +1,4 @@
 -- the function's start
-use borrow.Author.Rules.{rules}
 use Rattle.why.proofs.Items.{bonds-ready, absent-is}
 use Rattle.why.proofs.why_absent.Goals as goal
 

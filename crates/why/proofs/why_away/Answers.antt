@@ -1,5 +1,4 @@
 -- the function's start
-use borrow.Author.Rules.{rules}
 use Rattle.why.proofs.Items.{entries-low, away-low, away-is}
 use Rattle.why.proofs.why_away.Goals as goal
 

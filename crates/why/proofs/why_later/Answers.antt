@@ -1,5 +1,4 @@
 -- the function's start
-use borrow.Author.Rules.{rules}
 use native.Mathlib.Omega.{arith}
 use Rattle.net.specs.Limits.{max_bases}
 use Rattle.words.specs.Sets.{set_of}

@@ -1,5 +1,4 @@
 -- `ask_listing::told::first_other` is safe and ends. The counter stays within its bound, and slices keep their length.
-use borrow.Author.Rules.{rules}
 use Prim.Native.Nat.{◌-◌, ◌≤◌}
 use Rattle.ask_listing.proofs.told.first_other.Given as goal
 

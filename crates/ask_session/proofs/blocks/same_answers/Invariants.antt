@@ -1,5 +1,4 @@
 -- `ask_session::blocks::same_answers` is safe and ends.
-use borrow.Author.Rules.{rules}
 use Prim.Native.Nat.{◌-◌, ◌≤◌}
 use Rattle.ask_session.proofs.blocks.same_answers.Given as goal
 

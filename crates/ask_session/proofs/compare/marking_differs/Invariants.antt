@@ -1,5 +1,4 @@
 -- `ask_session::compare::marking_differs` is safe and ends.
-use borrow.Author.Rules.{rules}
 use Prim.Native.Nat.{◌-◌, ◌≤◌}
 use Rattle.ask_session.proofs.compare.marking_differs.Given as goal
 

@@ -1,5 +1,4 @@
 -- `ask_session::input::lay_commands` meets its contract. Lent slices keep their length.
-use borrow.Author.Rules.{rules}
 use mathlib.Core.Path.{◌≡◌}
 use Prim.Native.Nat.{◌-◌, ◌≤◌}
 use lib.ListN.{length}

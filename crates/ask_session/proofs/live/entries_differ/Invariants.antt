@@ -1,5 +1,4 @@
 -- `ask_session::live::entries_differ` is safe and ends.
-use borrow.Author.Rules.{rules}
 use Prim.Native.Nat.{◌-◌, ◌≤◌}
 use Rattle.ask_session.proofs.live.entries_differ.Given as goal
 

@@ -1,5 +1,4 @@
 -- `ask_session::outputs::first_difference` is safe and ends.
-use borrow.Author.Rules.{rules}
 use Prim.Native.Nat.{◌-◌, ◌≤◌}
 use Rattle.ask_session.proofs.outputs.first_difference.Given as goal
 

@@ -1,5 +1,4 @@
 -- `ask_session::outputs::printed_cases` meets its contract. Lent slices keep their length.
-use borrow.Author.Rules.{rules}
 use mathlib.Core.Path.{◌≡◌}
 use Prim.Native.Nat.{◌-◌, ◌≤◌}
 use lib.ListN.{length}

@@ -1,5 +1,4 @@
 -- `ask_session::writer::put_number` meets its contract. Lent slices keep their length.
-use borrow.Author.Rules.{rules}
 use mathlib.Core.Path.{◌≡◌}
 use lib.ListN.{length}
 use Rattle.ask_session.proofs.writer.put_number.Given as goal

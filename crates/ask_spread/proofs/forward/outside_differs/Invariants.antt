@@ -1,5 +1,4 @@
 -- `ask_spread::forward::outside_differs` is safe and ends. The counter stays within its bound, and slices keep their length.
-use borrow.Author.Rules.{rules}
 use Prim.Native.Nat.{◌-◌, ◌≤◌}
 use Rattle.ask_spread.proofs.forward.outside_differs.Given as goal
 

@@ -1,5 +1,4 @@
 -- `ask_spread::forward::run_without` is safe and ends. The counter stays within its bound, and slices keep their length.
-use borrow.Author.Rules.{rules}
 use Prim.Native.Nat.{◌-◌, ◌≤◌}
 use Rattle.ask_spread.proofs.forward.run_without.Given as goal
 

@@ -1,5 +1,4 @@
 -- `ask_tools::rows::bond_rows` is safe and ends. The counter stays within its bound, and slices keep their length.
-use borrow.Author.Rules.{rules}
 use mathlib.Core.Path.{◌≡◌}
 use Prim.Native.Nat.{◌-◌, ◌≤◌}
 use lib.ListN.{length}

@@ -1,5 +1,4 @@
 -- `ask_way::judge::gone` is safe and ends. The counter stays within its bound, and slices keep their length.
-use borrow.Author.Rules.{rules}
 use Prim.Native.Nat.{◌-◌, ◌≤◌}
 use Rattle.ask_way.proofs.judge.gone.Given as goal
 

@@ -1,5 +1,4 @@
 -- `ask_way::judge::same_keys` is safe and ends. The counter stays within its bound, and slices keep their length.
-use borrow.Author.Rules.{rules}
 use Prim.Native.Nat.{◌-◌, ◌≤◌}
 use Rattle.ask_way.proofs.judge.same_keys.Given as goal
 

@@ -1,5 +1,4 @@
 -- `compared::play::run` meets its contract. Lent slices keep their length.
-use borrow.Author.Rules.{rules}
 use mathlib.Core.Path.{◌≡◌}
 use lib.ListN.{length}
 use Rattle.compared.proofs.play.run.Given as goal

@@ -1,6 +1,6 @@
 -- `desk::program::take_file` is safe and ends.
 use mathlib.Core.Path.{sym}
-use Prim.Native.Nat.{◌-◌, ◌≤◌}
+use Prim.Native.Nat.{◌≤◌}
 use lib.Seq.{length-take-le}
 use lib.ListN.{length}
 use borrow.Author.Rules.{rules}

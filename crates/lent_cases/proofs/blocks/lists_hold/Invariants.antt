@@ -1,5 +1,4 @@
 -- `lent_cases::blocks::lists_hold` is safe and ends.
-use borrow.Author.Rules.{rules}
 use Prim.Native.Nat.{◌-◌}
 use Rattle.lent_cases.proofs.blocks.lists_hold.Given as goal
 

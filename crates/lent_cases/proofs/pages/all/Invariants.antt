@@ -1,10 +1,5 @@
 -- `lent_cases::pages::all` is safe and ends.
-use borrow.Author.Rules.{rules}
-use native.Mathlib.Omega.{arith}
-use mathlib.Core.Path.{◌≡◌, refl, ap, sym, ◌∙◌}
-use Prim.Native.Nat.{ℕ, suc, ◌+◌, ◌-◌, ◌*◌, ◌<◌, ◌≤◌}
-use lib.ListN.{length, get_or, take, drop, set}
-use mathlib.Core.List.{List, [], ◌∷◌, ◌++◌}
+use Prim.Native.Nat.{◌-◌}
 use Rattle.lent_cases.proofs.pages.all.Given as goal
 
 abbrev pub invariant-loop-i : goal.invariant-loop-i

@@ -1,5 +1,4 @@
 -- `script_ask::each::answer_of_all` is safe and ends.
-use borrow.Author.Rules.{rules}
 use Prim.Native.Nat.{◌-◌}
 use Rattle.script_ask.proofs.each.answer_of_all.Given as goal
 

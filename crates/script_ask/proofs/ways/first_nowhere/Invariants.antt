@@ -1,5 +1,4 @@
 -- `script_ask::ways::first_nowhere` is safe and ends.
-use borrow.Author.Rules.{rules}
 use Prim.Native.Nat.{◌-◌}
 use lib.ListN.{length}
 use Rattle.script_ask.proofs.ways.first_nowhere.Given as goal

@@ -1,7 +1,5 @@
 -- `script_ask::ways::read_layout` is safe and ends.
-use borrow.Author.Rules.{rules}
 use mathlib.Core.Path.{◌≡◌}
-use Prim.Native.Nat.{◌-◌}
 use lib.ListN.{length}
 use Rattle.script_ask.proofs.ways.read_layout.Given as goal
 

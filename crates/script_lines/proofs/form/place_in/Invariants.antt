@@ -1,5 +1,4 @@
 -- `script_lines::form::place_in` is safe and ends.
-use borrow.Author.Rules.{rules}
 use Prim.Native.Nat.{◌-◌}
 use lib.ListN.{length}
 use Rattle.script_lines.proofs.form.place_in.Given as goal

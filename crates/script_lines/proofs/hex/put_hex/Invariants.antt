@@ -1,7 +1,5 @@
 -- `script_lines::hex::put_hex` is safe and ends.
-use borrow.Author.Rules.{rules}
 use mathlib.Core.Path.{◌≡◌}
-use Prim.Native.Nat.{◌-◌}
 use lib.ListN.{length}
 use Rattle.script_lines.proofs.hex.put_hex.Given as goal
 

@@ -1,5 +1,4 @@
 -- `script_lines::same::same_bytes` is safe and ends.
-use borrow.Author.Rules.{rules}
 use Prim.Native.Nat.{◌-◌}
 use lib.ListN.{length}
 use Rattle.script_lines.proofs.same.same_bytes.Given as goal

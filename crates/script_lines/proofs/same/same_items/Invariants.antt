@@ -1,6 +1,4 @@
 -- `script_lines::same::same_items` is safe and ends.
-use borrow.Author.Rules.{rules}
-use Prim.Native.Nat.{◌-◌}
 use Rattle.script_lines.proofs.same.same_items.Given as goal
 
 abbrev pub invariant-loop-left : goal.invariant-loop-left

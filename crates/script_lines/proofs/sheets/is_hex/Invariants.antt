@@ -1,5 +1,4 @@
 -- `script_lines::sheets::is_hex` is safe and ends.
-use borrow.Author.Rules.{rules}
 use Prim.Native.Nat.{◌-◌}
 use lib.ListN.{length}
 use Rattle.script_lines.proofs.sheets.is_hex.Given as goal

@@ -1,5 +1,4 @@
 -- `script_make::files::print_commands` is safe and ends.
-use borrow.Author.Rules.{rules}
 use Prim.Native.Nat.{◌-◌}
 use lib.ListN.{length}
 use Rattle.script_make.proofs.files.print_commands.Given as goal

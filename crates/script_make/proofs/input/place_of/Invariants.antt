@@ -1,5 +1,4 @@
 -- `script_make::input::place_of` is safe and ends.
-use borrow.Author.Rules.{rules}
 use Prim.Native.Nat.{◌-◌}
 use lib.ListN.{length}
 use Rattle.script_make.proofs.input.place_of.Given as goal

@@ -1,4 +1,3 @@
-use borrow.Author.Rules.{rules}
 use mathlib.Core.Path.{◌∙◌}
 use Rattle.session.proofs.Answering.{refused-by}
 use Rattle.session.proofs.Stays.{performs}

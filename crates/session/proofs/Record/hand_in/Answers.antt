@@ -1,5 +1,4 @@
 -- the two tests, and the function's start
-use borrow.Author.Rules.{rules}
 use lib.ListN.{length}
 use Rattle.session.proofs.Blocks.{room, turned-away, not-turned, block-ran}
 use Rattle.session.proofs.Record.hand_in.Goals as goal

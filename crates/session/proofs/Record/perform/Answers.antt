@@ -1,4 +1,3 @@
-use borrow.Author.Rules.{rules}
 use mathlib.Core.Path.{◌∙◌}
 use Rattle.session.proofs.Stays.{did-performs}
 use Rattle.session.proofs.Record.perform.Goals as goal

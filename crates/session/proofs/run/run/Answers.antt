@@ -1,4 +1,3 @@
-use borrow.Author.Rules.{rules}
 use Rattle.session.proofs.Turns.{run-gives}
 use Rattle.session.proofs.run.run.Goals as goal
 

@@ -1,5 +1,5 @@
 -- `timed::blocks::run_blocks` is safe and ends.
-use Rattle.std.proofs.Common.{◌≡◌, ◌+◌, ◌-◌, ◌≤◌, length, rules}
+use Rattle.std.proofs.Common.{◌≡◌, ◌+◌, ◌-◌, ◌≤◌, length}
 use Rattle.timed.proofs.blocks.run_blocks.Given as goal
 
 abbrev pub invariant-loop-at : goal.invariant-loop-at

@@ -1,5 +1,5 @@
 -- `timed::blocks::run_list` is safe and ends.
-use Rattle.std.proofs.Common.{◌-◌, ◌∙◌, rules}
+use Rattle.std.proofs.Common.{◌∙◌, rules}
 use Rattle.sound.proofs.Refusing.{sheet-clear}
 use Rattle.session_start.proofs.Starting.{started-sound}
 use Rattle.timed.proofs.blocks.run_list.Goals as goal

@@ -1,5 +1,5 @@
 -- `timed::lists::listed` is safe and ends.
-use Rattle.std.proofs.Common.{◌-◌, rules}
+use Rattle.std.proofs.Common.{◌-◌}
 use Rattle.timed.proofs.lists.listed.Given as goal
 
 abbrev pub invariant-loop-i : goal.invariant-loop-i

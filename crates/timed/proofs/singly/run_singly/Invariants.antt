@@ -1,5 +1,5 @@
 -- `timed::singly::run_singly` is safe and ends.
-use Rattle.std.proofs.Common.{◌+◌, ◌-◌, ◌≤◌, length, rules}
+use Rattle.std.proofs.Common.{◌+◌, ◌-◌, ◌≤◌, length}
 use Rattle.timed.proofs.singly.run_singly.Given as goal
 
 abbrev pub invariant-loop-at : goal.invariant-loop-at

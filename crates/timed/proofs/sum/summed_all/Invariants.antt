@@ -1,5 +1,5 @@
 -- `timed::sum::summed_all` is safe and ends.
-use Rattle.std.proofs.Common.{◌-◌, rules}
+use Rattle.std.proofs.Common.{◌-◌}
 use Rattle.timed.proofs.sum.summed_all.Given as goal
 
 abbrev pub invariant-loop-i : goal.invariant-loop-i

@@ -1,5 +1,5 @@
 -- `timed::ways::summed_keys` is safe and ends.
-use Rattle.std.proofs.Common.{◌-◌, rules}
+use Rattle.std.proofs.Common.{◌-◌}
 use Rattle.timed.proofs.ways.summed_keys.Given as goal
 
 abbrev pub invariant-loop-i : goal.invariant-loop-i

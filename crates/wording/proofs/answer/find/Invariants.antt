@@ -1,5 +1,4 @@
 -- `wording::answer::find` is safe and ends.
-use borrow.Author.Rules.{rules}
 use Prim.Native.Nat.{◌-◌}
 use Rattle.wording.proofs.answer.find.Given as goal
 

@@ -1,5 +1,4 @@
 -- `wording::answer::put_live` is safe and ends.
-use borrow.Author.Rules.{rules}
 use mathlib.Core.Path.{◌≡◌}
 use Prim.Native.Nat.{◌-◌}
 use lib.ListN.{length}

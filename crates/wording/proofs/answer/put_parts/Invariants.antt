@@ -1,8 +1,7 @@
 -- `wording::answer::put_parts` is safe and ends.
-use borrow.Author.Rules.{rules}
 use mathlib.Core.Path.{◌≡◌}
 use Prim.Native.Nat.{◌-◌}
-use lib.ListN.{length, set}
+use lib.ListN.{length}
 use Rattle.wording.proofs.answer.put_parts.Given as goal
 
 abbrev pub invariant-loop-p : goal.invariant-loop-p

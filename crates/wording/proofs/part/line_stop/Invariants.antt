@@ -1,5 +1,4 @@
 -- `wording::part::line_stop` is safe and ends.
-use borrow.Author.Rules.{rules}
 use Prim.Native.Nat.{◌-◌}
 use lib.ListN.{length}
 use Rattle.wording.proofs.part.line_stop.Given as goal

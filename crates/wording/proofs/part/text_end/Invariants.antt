@@ -1,5 +1,4 @@
 -- `wording::part::text_end` is safe and ends.
-use borrow.Author.Rules.{rules}
 use Prim.Native.Nat.{◌-◌}
 use lib.ListN.{length}
 use Rattle.wording.proofs.part.text_end.Given as goal

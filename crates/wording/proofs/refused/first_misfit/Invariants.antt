@@ -1,5 +1,4 @@
 -- `wording::refused::first_misfit` is safe and ends.
-use borrow.Author.Rules.{rules}
 use Prim.Native.Nat.{◌-◌}
 use Rattle.wording.proofs.refused.first_misfit.Given as goal
 

@@ -1,5 +1,4 @@
 -- `wording::refused::first_misplaced` is safe and ends.
-use borrow.Author.Rules.{rules}
 use Prim.Native.Nat.{◌-◌}
 use lib.ListN.{length}
 use Rattle.wording.proofs.refused.first_misplaced.Given as goal

@@ -1,5 +1,4 @@
 -- `wording::refused::first_refused` is safe and ends.
-use borrow.Author.Rules.{rules}
 use Prim.Native.Nat.{◌-◌}
 use Rattle.wording.proofs.refused.first_refused.Given as goal
 
