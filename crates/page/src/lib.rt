@@ -1,5 +1,5 @@
 // Live firings on a ruled page (document 02, T-01): the list that is handed in, read into plain numbers, and the page of it.
-// The functions that take the list are proved by walks by hand: a slice of structs is not covered.
+// The list is gone through once; what a page says of a firing are plain numbers.
 #![tactic(auto)]
 
 ghost use Rattle.std.specs.Prelude.{◌≡◌, [], ◌∷◌, ◌++◌, ltb, take};

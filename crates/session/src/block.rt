@@ -70,7 +70,7 @@ impl Record {
     }
 
     // A whole block: the record comes back in the outcome, the lent tally has one more for each command, the lent lists have the
-    // answers. Turned away, nothing of the three changes. Proved by a walk by hand: a reference to a struct is not covered.
+    // answers. Turned away, nothing of the three changes.
     pub fn block(
         self,
         sheet: &[u8],

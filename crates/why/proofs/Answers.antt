@@ -1,3 +1,4 @@
+-- `why`: the answers to the goals that the check leaves.
 -- The reason of any command on any record and sheet: by the sheet, by the record, by the command's own number.
 -- Assumes nothing.
 use mathlib.Core.Path.{◌≡◌, refl, sym, ◌∙◌, ap}

@@ -1,3 +1,4 @@
+-- `acting::fire_in`: the answers to the goals that the check leaves.
 -- the function's start, and what was lent
 use native.Mathlib.Omega.{arith}
 use mathlib.Core.Path.{refl}

@@ -1,3 +1,4 @@
+-- `acting::undo_in`: the answers to the goals that the check leaves.
 -- the function's start, and what was lent
 use native.Mathlib.Omega.{arith}
 use Prim.Native.Nat.{◌<◌}

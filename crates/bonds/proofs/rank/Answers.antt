@@ -1,3 +1,4 @@
+-- `bonds::rank`: the answers to the goals that the check leaves.
 use mathlib.Core.Path.{sym, ◌∙◌}
 use Prim.Native.Nat.{ℕ, ◌+◌, ◌/◌}
 use native.Mathlib.Omega.{arith}

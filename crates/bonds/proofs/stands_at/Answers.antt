@@ -1,3 +1,4 @@
+-- `bonds::stands_at`: the answers to the goals that the check leaves.
 use mathlib.Core.Path.{◌∙◌}
 use borrow.Author.Rules.{rules}
 use Rattle.net.specs.Net.{same_bond, less_bond}

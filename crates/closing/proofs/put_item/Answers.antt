@@ -1,3 +1,4 @@
+-- `closing::put_item`: the answers to the goals that the check leaves.
 use Rattle.closing.proofs.Lines.{item-pieces}
 use Rattle.closing.proofs.put_item.Goals as goal
 

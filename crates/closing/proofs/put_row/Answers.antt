@@ -1,3 +1,4 @@
+-- `closing::put_row`: the answers to the goals that the check leaves.
 use native.Mathlib.Omega.{arith}
 use Rattle.closing.proofs.Lines.{row-pieces, items-length}
 use Rattle.closing.proofs.put_row.Goals as goal

@@ -1,3 +1,4 @@
+-- `command_list::block_refusal`: the answers to the goals that the check leaves.
 -- the three answers
 use mathlib.Core.Path.{◌≡◌, sym, ◌∙◌}
 use mathlib.Core.Bool.{true, false}

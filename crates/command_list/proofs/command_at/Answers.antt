@@ -1,3 +1,4 @@
+-- `command_list::command_at`: the answers to the goals that the check leaves.
 use Rattle.command_list.proofs.Parts.{cut-part, whole_part}
 use Rattle.command_list.proofs.command_at.Goals as goal
 

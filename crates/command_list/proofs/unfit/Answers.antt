@@ -1,3 +1,4 @@
+-- `command_list::unfit`: the answers to the goals that the check leaves.
 -- the three tests in turn, of the number of commands that the bytes hold
 use mathlib.Core.Path.{◌≡◌, refl, sym}
 use Prim.Native.Nat.{ℕ, ◌<◌, ◌≤◌}

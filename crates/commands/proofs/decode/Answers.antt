@@ -1,3 +1,4 @@
+-- `commands::decode`: the answers to the goals that the check leaves.
 use Rattle.commands.proofs.Decoding.{is-fire, is-undo, no_kind, no_number, is-undo-last}
 use Rattle.commands.proofs.decode.Goals as goal
 

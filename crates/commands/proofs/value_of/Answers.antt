@@ -1,3 +1,4 @@
+-- `commands::value_of`: the answers to the goals that the check leaves.
 use mathlib.Core.Path.{refl}
 use Prim.Native.Nat.{◌<◌}
 use borrow.Author.Rules.{rules}

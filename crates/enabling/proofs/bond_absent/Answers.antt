@@ -1,3 +1,4 @@
+-- `enabling::bond_absent`: the answers to the goals that the check leaves.
 use mathlib.Core.Path.{◌≡◌, refl, sym, ◌∙◌}
 use mathlib.Core.Bool.{not}
 use native.Mathlib.Omega.{arith}

@@ -1,3 +1,4 @@
+-- `enabling::breaks_none`: the answers to the goals that the check leaves.
 use mathlib.Core.Path.{sym, ◌∙◌, ap}
 use Prim.Native.Nat.{ℕ}
 use Rattle.net.specs.Tests.{all, table}

@@ -1,3 +1,4 @@
+-- `enabling::elsewhere`: the answers to the goals that the check leaves.
 -- the entry's base is not at its out-place
 use mathlib.Core.Path.{◌≡◌, refl, sym, ◌∙◌, subst}
 use Prim.Native.Nat.{◌<◌}

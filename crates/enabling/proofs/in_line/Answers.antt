@@ -1,3 +1,4 @@
+-- `enabling::in_line`: the answers to the goals that the check leaves.
 -- one turn meets no more than there are
 use mathlib.Core.Path.{◌≡◌, refl, sym, ◌∙◌, ap}
 use mathlib.Core.List.{List}

@@ -1,3 +1,4 @@
+-- `enabling::in_line`: what its loops keep, and by what they end.
 -- one turn meets no more than there are
 use mathlib.Core.Path.{◌≡◌}
 use Prim.Native.Nat.{◌-◌, ◌≤◌}

@@ -1,3 +1,4 @@
+-- `enabling::is_bond_of`: the answers to the goals that the check leaves.
 use mathlib.Core.Path.{refl, sym, ◌∙◌}
 use mathlib.Core.List.{List}
 use Prim.Native.Nat.{ℕ}

@@ -1,3 +1,4 @@
+-- `enabling::is_broken`: the answers to the goals that the check leaves.
 use mathlib.Core.Path.{sym, ◌∙◌, ap}
 use mathlib.Core.Bool.{Bool, not, ◌&&◌}
 use Rattle.net.specs.Net.{has_bond}

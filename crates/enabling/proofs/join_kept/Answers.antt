@@ -1,3 +1,4 @@
+-- `enabling::join_kept`: the answers to the goals that the check leaves.
 use mathlib.Core.Path.{◌≡◌, sym, ◌∙◌, ap}
 use mathlib.Core.Bool.{Bool, true, false}
 use Rattle.net.specs.Tests.{pick}

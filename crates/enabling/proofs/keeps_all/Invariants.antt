@@ -1,3 +1,4 @@
+-- `enabling::keeps_all`: what its loops keep, and by what they end.
 use mathlib.Core.Path.{◌≡◌}
 use mathlib.Core.Bool.{true}
 use Prim.Native.Nat.{◌-◌, ◌≤◌}

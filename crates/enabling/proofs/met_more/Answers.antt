@@ -1,3 +1,4 @@
+-- `enabling::met_more`: the answers to the goals that the check leaves.
 use mathlib.Core.Path.{◌≡◌, sym, ◌∙◌, ap}
 use mathlib.Core.Bool.{Bool}
 use Prim.Native.Nat.{◌+◌}

@@ -1,3 +1,4 @@
+-- `enabling::misplaced`: what its loops keep, and by what they end.
 -- the entry's base is not at its in-place
 use mathlib.Core.Path.{◌≡◌}
 use mathlib.Core.Bool.{Bool, not}

@@ -1,3 +1,4 @@
+-- `enabling::torn_apart`: the answers to the goals that the check leaves.
 use mathlib.Core.Path.{ap, sym, ◌∙◌}
 use mathlib.Core.Bool.{not}
 use mathlib.Core.List.{List}

@@ -1,3 +1,4 @@
+-- `enabling::torn_with`: the answers to the goals that the check leaves.
 use mathlib.Core.Path.{◌∙◌}
 use Prim.Native.Nat.{◌<◌}
 use Rattle.net.specs.Limits.{max_bases}

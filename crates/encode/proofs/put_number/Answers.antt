@@ -1,3 +1,4 @@
+-- `encode::put_number`: the answers to the goals that the check leaves.
 use native.Mathlib.Numerals.{add-one}
 use lib.ListN.{length-set}
 use native.Mathlib.Omega.{arith}

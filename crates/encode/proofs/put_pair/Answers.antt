@@ -1,3 +1,4 @@
+-- `encode::put_pair`: the answers to the goals that the check leaves.
 use Rattle.encode.specs.Encoding.{word}
 use Rattle.text.proofs.Writes.{written_none, written-more, written-pair}
 use mathlib.Core.List.{List}

@@ -1,3 +1,4 @@
+-- `engine::fire_in`: the answers to the goals that the check leaves.
 use Rattle.net.specs.Firing.{broken_bond}
 use Rattle.net.proofs.Written.{has_right}
 use Rattle.format.specs.Arcs.{arcs_in}

@@ -1,3 +1,4 @@
+-- `engine::join_out_bonds`: what its loops keep, and by what they end.
 use Prim.Native.Nat.{◌≤◌}
 use lib.ListN.{drop}
 use Rattle.net.specs.Tests.{table}

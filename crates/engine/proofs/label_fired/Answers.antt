@@ -1,3 +1,4 @@
+-- `engine::label_fired`: the answers to the goals that the check leaves.
 use mathlib.Core.Path.{sym}
 use Rattle.enabling.proofs.Keeping.{labelled-is}
 use Rattle.engine.proofs.label_fired.Goals as goal

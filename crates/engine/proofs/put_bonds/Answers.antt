@@ -1,3 +1,4 @@
+-- `engine::put_bonds`: the answers to the goals that the check leaves.
 use native.Mathlib.Omega.{arith}
 use Rattle.format.specs.Arcs.{arcs_in}
 use Rattle.format.specs.Sides.{bond_count, nth_bond}

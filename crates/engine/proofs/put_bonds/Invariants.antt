@@ -1,3 +1,4 @@
+-- `engine::put_bonds`: what its loops keep, and by what they end.
 use mathlib.Core.Path.{◌≡◌}
 use Prim.Native.Nat.{◌≤◌}
 use lib.ListN.{drop}

@@ -1,3 +1,4 @@
+-- `engine::put_broken`: the answers to the goals that the check leaves.
 use mathlib.Core.Path.{sym, ◌∙◌, ap}
 use mathlib.Core.List.{List}
 use Rattle.net.specs.Sorted.{puts}

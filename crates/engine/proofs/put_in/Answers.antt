@@ -1,3 +1,4 @@
+-- `engine::put_in`: the answers to the goals that the check leaves.
 -- an out-bond goes in
 use mathlib.Core.Path.{◌≡◌, refl, sym, ◌∙◌, ap}
 use mathlib.Core.Bool.{Bool, true, false, not, ◌||◌}

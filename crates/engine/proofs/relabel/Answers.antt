@@ -1,3 +1,4 @@
+-- `engine::relabel`: the answers to the goals that the check leaves.
 use Rattle.engine.proofs.relabel.Goals as goal
 
 pub returns-then-same : goal.returns-then-same

@@ -1,3 +1,4 @@
+-- `engine::take_bonds`: the answers to the goals that the check leaves.
 use mathlib.Core.Path.{◌≡◌, ◌∙◌}
 use mathlib.Core.Bool.{not}
 use native.Mathlib.Omega.{arith}

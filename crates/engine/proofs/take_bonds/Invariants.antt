@@ -1,3 +1,4 @@
+-- `engine::take_bonds`: what its loops keep, and by what they end.
 use mathlib.Core.Path.{◌≡◌}
 use mathlib.Core.Bool.{not, ◌&&◌}
 use Prim.Native.Nat.{◌-◌, ◌≤◌}

@@ -1,3 +1,4 @@
+-- `engine::take_broken`: the answers to the goals that the check leaves.
 use mathlib.Core.Path.{sym, ◌∙◌, ap}
 use Rattle.format.specs.Arcs.{arcs_in}
 use Rattle.bonds.specs.Ends.{bonds_in}

@@ -1,3 +1,4 @@
+-- `engine::take_out`: the answers to the goals that the check leaves.
 use mathlib.Core.Path.{ap, sym, ◌∙◌}
 use mathlib.Core.Bool.{not}
 use Rattle.format.specs.Sides.{side_bonds}

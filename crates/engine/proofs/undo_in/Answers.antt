@@ -1,3 +1,4 @@
+-- `engine::undo_in`: the answers to the goals that the check leaves.
 use Rattle.net.proofs.Written.{has_left}
 use Rattle.format.specs.Arcs.{arcs_in}
 use Rattle.marking.specs.declared.Marking.{Marking}

@@ -1,3 +1,4 @@
+-- `exam::main`: the answers to the goals that the check leaves.
 use borrow.Author.Rules.{rules}
 use mathlib.Core.Path.{sym}
 use Prim.Native.Nat.{◌≤◌}

@@ -1,3 +1,4 @@
+-- `final_lines::put_live_keys`: the answers to the goals that the check leaves.
 use native.Mathlib.Omega.{arith}
 use mathlib.Core.Path.{sym}
 use lib.ListN.{take}

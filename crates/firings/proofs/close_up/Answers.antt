@@ -1,3 +1,4 @@
+-- `firings::close_up`: the answers to the goals that the check leaves.
 use Prim.Native.Nat.{◌-◌}
 use Rattle.firings.specs.Lines.{lying}
 use Rattle.firings.proofs.close_up.Goals as goal

@@ -1,3 +1,4 @@
+-- `firings::firings_in_form`: the answers to the goals that the check leaves.
 -- the function's start, and the firings that were lent
 use borrow.Author.Rules.{rules}
 use native.Mathlib.Omega.{arith}

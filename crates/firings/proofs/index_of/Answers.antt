@@ -1,3 +1,4 @@
+-- `firings::index_of`: the answers to the goals that the check leaves.
 use Rattle.firings.proofs.Search.{all-lower, other_key, this_key}
 use Rattle.firings.proofs.index_of.Goals as goal
 

@@ -1,3 +1,4 @@
+-- `firings::last_key`: the answers to the goals that the check leaves.
 use borrow.Author.Tests.{eq-eqb, ne_eqb}
 use Rattle.firings.proofs.last_key.Goals as goal
 

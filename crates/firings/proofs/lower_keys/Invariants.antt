@@ -1,3 +1,4 @@
+-- `firings::lower_keys`: what its loops keep, and by what they end.
 use mathlib.Core.Path.{◌≡◌}
 use Prim.Native.Nat.{◌-◌, ◌≤◌}
 use lib.Dec.{ltb}

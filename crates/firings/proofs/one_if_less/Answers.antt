@@ -1,3 +1,4 @@
+-- `firings::one_if_less`: the answers to the goals that the check leaves.
 use native.Mathlib.Omega.{arith}
 use mathlib.Core.Path.{refl}
 use borrow.Author.Tests.{lt-ltb, le-ltb}

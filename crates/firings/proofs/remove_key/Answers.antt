@@ -1,3 +1,4 @@
+-- `firings::remove_key`: the answers to the goals that the check leaves.
 use borrow.Author.Rules.{rules}
 use mathlib.Core.Path.{◌≡◌, ap, sym, ◌∙◌}
 use mathlib.Core.List.{List, ◌++◌}

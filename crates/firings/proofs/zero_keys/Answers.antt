@@ -1,3 +1,4 @@
+-- `firings::zero_keys`: the answers to the goals that the check leaves.
 use mathlib.Core.Path.{refl, sym, ◌∙◌}
 use Prim.Native.Nat.{ℕ}
 use lib.Dec.{eqb}

@@ -1,3 +1,4 @@
+-- `firings::zero_words`: the answers to the goals that the check leaves.
 use mathlib.Core.Path.{refl, sym, ◌∙◌}
 use Prim.Native.Nat.{ℕ}
 use lib.Dec.{eqb}

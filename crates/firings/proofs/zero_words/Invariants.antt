@@ -1,3 +1,4 @@
+-- `firings::zero_words`: what its loops keep, and by what they end.
 use mathlib.Core.Path.{◌≡◌}
 use Prim.Native.Nat.{◌-◌}
 use mathlib.Core.Bool.{◌&&◌}

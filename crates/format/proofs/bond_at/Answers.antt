@@ -1,3 +1,4 @@
+-- `format::bond_at`: the answers to the goals that the check leaves.
 use Rattle.format.proofs.bond_at.Goals as goal
 
 pub returns : goal.returns

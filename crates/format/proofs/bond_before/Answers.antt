@@ -1,3 +1,4 @@
+-- `format::bond_before`: the answers to the goals that the check leaves.
 use borrow.Author.Tests.{lt-ltb, le-ltb, eq-eqb, ne_eqb}
 use Rattle.format.proofs.bond_before.Goals as goal
 

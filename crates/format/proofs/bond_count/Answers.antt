@@ -1,3 +1,4 @@
+-- `format::bond_count`: the answers to the goals that the check leaves.
 use mathlib.Core.Path.{◌∙◌}
 use Rattle.format.proofs.bond_count.Goals as goal
 

@@ -1,3 +1,4 @@
+-- `format::byte_at`: the answers to the goals that the check leaves.
 use mathlib.Core.Path.{sym}
 use lib.ListN.{get_or-eq_default}
 use Rattle.format.proofs.byte_at.Goals as goal

@@ -1,3 +1,4 @@
+-- `format::entry_at`: the answers to the goals that the check leaves.
 use Rattle.format.proofs.entry_at.Goals as goal
 
 pub returns : goal.returns

@@ -1,3 +1,4 @@
+-- `format::in_count`: the answers to the goals that the check leaves.
 use mathlib.Core.Path.{◌∙◌}
 use Rattle.format.proofs.in_count.Goals as goal
 

@@ -1,3 +1,4 @@
+-- `format::nth_bond`: the answers to the goals that the check leaves.
 use mathlib.Core.Path.{◌∙◌}
 use Rattle.format.proofs.nth_bond.Goals as goal
 

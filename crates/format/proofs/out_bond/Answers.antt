@@ -1,3 +1,4 @@
+-- `format::out_bond`: the answers to the goals that the check leaves.
 use mathlib.Core.Path.{◌∙◌}
 use Rattle.format.proofs.out_bond.Goals as goal
 

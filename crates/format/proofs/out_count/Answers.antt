@@ -1,3 +1,4 @@
+-- `format::out_count`: the answers to the goals that the check leaves.
 use mathlib.Core.Path.{◌∙◌}
 use Rattle.format.proofs.out_count.Goals as goal
 

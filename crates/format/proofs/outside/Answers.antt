@@ -1,3 +1,4 @@
+-- `format::outside`: the answers to the goals that the check leaves.
 use borrow.Author.Tests.{eq-eqb, ne_eqb}
 use Rattle.format.proofs.outside.Goals as goal
 

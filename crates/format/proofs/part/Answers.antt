@@ -1,3 +1,4 @@
+-- `format::part`: the answers to the goals that the check leaves.
 use native.Mathlib.Omega.{arith}
 use lib.ListN.{length-take, length-drop}
 use Rattle.format.proofs.Parts.{found, missing}

@@ -1,3 +1,4 @@
+-- `format::start_bond`: the answers to the goals that the check leaves.
 use mathlib.Core.Path.{◌∙◌}
 use Rattle.format.proofs.start_bond.Goals as goal
 

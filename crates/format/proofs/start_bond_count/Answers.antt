@@ -1,3 +1,4 @@
+-- `format::start_bond_count`: the answers to the goals that the check leaves.
 use Rattle.format.proofs.start_bond_count.Goals as goal
 
 pub returns : goal.returns

@@ -1,3 +1,4 @@
+-- `format::transition_bytes`: the answers to the goals that the check leaves.
 use mathlib.Core.Path.{◌∙◌}
 use Rattle.format.proofs.Parts.{on-sheet, not-on-sheet}
 use Rattle.format.proofs.transition_bytes.Goals as goal

@@ -1,3 +1,4 @@
+-- `forms::has_form`: the answers to the goals that the check leaves.
 use Rattle.forms.proofs.Rows.{form-over, line-over, not-suited, suited}
 use borrow.Author.Rules.{rules}
 use native.Mathlib.Omega.{arith}

@@ -1,3 +1,4 @@
+-- `forms::has_form`: what its loops keep, and by what they end.
 use Rattle.forms.specs.Forms.{fits}
 use Rattle.lexing.specs.Tokens.{row}
 use mathlib.Core.Path.{◌≡◌}

@@ -1,3 +1,4 @@
+-- `forms::is_here`: the answers to the goals that the check leaves.
 use mathlib.Core.Bool.{true, false}
 use mathlib.Core.Path.{◌≡◌}
 use Rattle.forms.proofs.is_here.Goals as goal

@@ -1,3 +1,4 @@
+-- `forms::nth_number`: the answers to the goals that the check leaves.
 use mathlib.Core.Bool.{Bool, ◌&&◌}
 use lib.Dec.{eqb}
 use Rattle.forms.proofs.Rows.{number-none, number-here, number-later}

@@ -1,3 +1,4 @@
+-- `forms::nth_number`: what its loops keep, and by what they end.
 use Rattle.forms.specs.Forms.{numbers}
 use Rattle.lexing.specs.Tokens.{row}
 use mathlib.Core.Path.{◌≡◌}

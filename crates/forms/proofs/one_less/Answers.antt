@@ -1,3 +1,4 @@
+-- `forms::one_less`: the answers to the goals that the check leaves.
 use mathlib.Core.Bool.{true, false}
 use mathlib.Core.Path.{◌≡◌}
 use Rattle.forms.proofs.one_less.Goals as goal

@@ -1,3 +1,4 @@
+-- `forms::same_word`: the answers to the goals that the check leaves.
 use Rattle.forms.proofs.Words.{same-short, same-differ, same-on, same_end}
 use borrow.Author.Rules.{rules}
 use native.Mathlib.Omega.{arith}

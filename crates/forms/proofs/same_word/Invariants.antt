@@ -1,3 +1,4 @@
+-- `forms::same_word`: what its loops keep, and by what they end.
 use lib.Dec.{eqb}
 use lib.Seq.{slice}
 use Rattle.net.specs.Tests.{same_list}

@@ -1,3 +1,4 @@
+-- `forms::suits`: the answers to the goals that the check leaves.
 use Rattle.forms.proofs.Rows.{number-token}
 use mathlib.Core.Path.{◌∙◌}
 use Rattle.forms.proofs.suits.Goals as goal

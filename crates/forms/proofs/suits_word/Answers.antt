@@ -1,3 +1,4 @@
+-- `forms::suits_word`: the answers to the goals that the check leaves.
 use mathlib.Core.Path.{◌∙◌}
 use Rattle.forms.proofs.suits_word.Goals as goal
 

@@ -1,3 +1,4 @@
+-- `fresh_marking::placed`: the answers to the goals that the check leaves.
 use mathlib.Core.Path.{refl, ap, ◌∙◌}
 use native.Mathlib.Omega.{arith}
 use lib.ListN.{length, get_or}

@@ -1,3 +1,4 @@
+-- `fresh_marking::start_ends`: the answers to the goals that the check leaves.
 use mathlib.Core.Path.{refl, ap, sym, ◌∙◌}
 use native.Mathlib.Omega.{arith}
 use borrow.Author.Rules.{rules}

@@ -1,3 +1,4 @@
+-- `fresh_marking::start_marking`: the answers to the goals that the check leaves.
 use mathlib.Core.Path.{ap, sym, ◌∙◌}
 use Rattle.net.proofs.Tables.{length-table}
 use Rattle.net.specs.Limits.{max_bases}

@@ -1,3 +1,4 @@
+-- `groups::moved_word`: the answers to the goals that the check leaves.
 use mathlib.Core.Path.{◌≡◌, sym, ◌∙◌, ap, subst}
 use Prim.Native.Nat.{ℕ, ◌<◌}
 use native.Mathlib.Omega.{arith}

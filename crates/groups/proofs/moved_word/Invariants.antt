@@ -1,3 +1,4 @@
+-- `groups::moved_word`: what its loops keep, and by what they end.
 use mathlib.Core.Path.{◌≡◌}
 use Prim.Native.Nat.{◌-◌, ◌≤◌}
 use Rattle.net.specs.Limits.{max_bases}

@@ -1,3 +1,4 @@
+-- `groups::send_back`: the answers to the goals that the check leaves.
 -- the base is in the set
 use mathlib.Core.Path.{◌≡◌, refl, sym, ◌∙◌, ap, subst}
 use mathlib.Core.Bool.{true}

@@ -1,3 +1,4 @@
+-- `groups::send_back`: what its loops keep, and by what they end.
 -- the base is in the set
 use mathlib.Core.Path.{◌≡◌}
 use mathlib.Core.Bool.{Bool, true, false}

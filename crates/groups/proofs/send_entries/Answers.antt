@@ -1,3 +1,4 @@
+-- `groups::send_entries`: the answers to the goals that the check leaves.
 use mathlib.Core.Path.{◌≡◌, refl, sym, ◌∙◌, ap, subst}
 use mathlib.Core.Bool.{true, false}
 use Prim.Native.Nat.{◌-◌, ◌<◌}

@@ -1,3 +1,4 @@
+-- `groups::send_entries`: what its loops keep, and by what they end.
 use mathlib.Core.Path.{◌≡◌}
 use mathlib.Core.Bool.{true, false}
 use Prim.Native.Nat.{◌≤◌}

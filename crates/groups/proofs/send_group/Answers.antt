@@ -1,3 +1,4 @@
+-- `groups::send_group`: the answers to the goals that the check leaves.
 use mathlib.Core.Path.{refl, ap, ◌∙◌}
 use mathlib.Core.List.{List}
 use Prim.Native.Nat.{ℕ}

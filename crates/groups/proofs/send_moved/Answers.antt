@@ -1,3 +1,4 @@
+-- `groups::send_moved`: the answers to the goals that the check leaves.
 use mathlib.Core.Path.{sym, ◌∙◌}
 use lib.ListN.{get_or}
 use Rattle.net.specs.Limits.{max_bases}

@@ -1,3 +1,4 @@
+-- `groups::send_some`: the answers to the goals that the check leaves.
 use mathlib.Core.Path.{◌≡◌, refl, ◌∙◌}
 use mathlib.Core.Bool.{false, ◌&&◌}
 use mathlib.Core.List.{List}

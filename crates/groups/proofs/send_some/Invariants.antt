@@ -1,3 +1,4 @@
+-- `groups::send_some`: what its loops keep, and by what they end.
 use mathlib.Core.Path.{◌≡◌}
 use mathlib.Core.Bool.{false, ◌&&◌}
 use mathlib.Core.List.{◌++◌}

@@ -1,3 +1,4 @@
+-- `labels::bases_in`: the answers to the goals that the check leaves.
 use mathlib.Core.Path.{◌≡◌, subst}
 use mathlib.Core.List.{List}
 use Prim.Native.Nat.{ℕ, ◌≤◌}

@@ -1,3 +1,4 @@
+-- `labels::bases_in`: what its loops keep, and by what they end.
 use Prim.Native.Nat.{ℕ, ◌-◌, ◌<◌, ◌≤◌}
 use lib.ListN.{get_or}
 use Rattle.net.specs.Limits.{max_bases}

@@ -1,3 +1,4 @@
+-- `labels::flatten`: what its loops keep, and by what they end.
 use mathlib.Core.Path.{◌≡◌}
 use mathlib.Core.List.{◌++◌}
 use Prim.Native.Nat.{ℕ, ◌-◌, ◌≤◌}

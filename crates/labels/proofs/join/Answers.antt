@@ -1,3 +1,4 @@
+-- `labels::join`: the answers to the goals that the check leaves.
 -- both ends' labels are below the limit
 use Prim.Native.Nat.{◌<◌}
 use native.Mathlib.Omega.{arith}

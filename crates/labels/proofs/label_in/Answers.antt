@@ -1,3 +1,4 @@
+-- `labels::label_in`: the answers to the goals that the check leaves.
 use Rattle.labels.proofs.label_in.Goals as goal
 
 pub returns : goal.returns

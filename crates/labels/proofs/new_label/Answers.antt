@@ -1,3 +1,4 @@
+-- `labels::new_label`: the answers to the goals that the check leaves.
 use borrow.Author.Tests.{eq-eqb, ne_eqb}
 use Rattle.labels.proofs.new_label.Goals as goal
 

@@ -1,3 +1,4 @@
+-- `labels::own_in`: the answers to the goals that the check leaves.
 use mathlib.Core.Path.{refl}
 use native.Mathlib.Omega.{arith}
 use borrow.Author.Rules.{rules}

@@ -1,3 +1,4 @@
+-- `labels::relabel`: the answers to the goals that the check leaves.
 use Rattle.labels.proofs.relabel.Goals as goal
 
 pub returns : goal.returns

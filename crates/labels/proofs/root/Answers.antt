@@ -1,3 +1,4 @@
+-- `labels::root`: the answers to the goals that the check leaves.
 use mathlib.Core.Path.{refl, ap, ◌∙◌}
 use native.Mathlib.Omega.{arith}
 use borrow.Author.Rules.{rules}

@@ -1,3 +1,4 @@
+-- `labels::set_members`: the answers to the goals that the check leaves.
 use mathlib.Core.Path.{refl, ◌∙◌}
 use mathlib.Core.List.{List}
 use Prim.Native.Nat.{ℕ, ◌<◌}

@@ -1,3 +1,4 @@
+-- `labels::unite_all`: the answers to the goals that the check leaves.
 use mathlib.Core.Path.{◌≡◌, sym, subst}
 use Prim.Native.Nat.{ℕ, ◌+◌}
 use native.Mathlib.Omega.{arith}

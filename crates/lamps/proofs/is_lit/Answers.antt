@@ -1,3 +1,4 @@
+-- `lamps::is_lit`: the answers to the goals that the check leaves.
 use mathlib.Core.Path.{◌∙◌}
 use Rattle.lamps.proofs.Flags.{lamp-found, lamp-dead}
 use Rattle.lamps.proofs.is_lit.Goals as goal

@@ -1,3 +1,4 @@
+-- `lamps::lit_at`: the answers to the goals that the check leaves.
 use mathlib.Core.Path.{◌∙◌}
 use Rattle.lamps.proofs.Flags.{flag-live, flag-after}
 use Rattle.lamps.proofs.lit_at.Goals as goal

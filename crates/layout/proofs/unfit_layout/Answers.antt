@@ -1,3 +1,4 @@
+-- `layout::unfit_layout`: the answers to the goals that the check leaves.
 -- what is known after the first i bytes
 use borrow.Author.Rules.{rules}
 use native.Mathlib.Omega.{arith}

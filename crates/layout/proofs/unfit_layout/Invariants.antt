@@ -1,3 +1,4 @@
+-- `layout::unfit_layout`: what its loops keep, and by what they end.
 -- what is known after the first i bytes
 use mathlib.Core.Path.{◌≡◌}
 use mathlib.Core.Bool.{Bool, not, ◌||◌}

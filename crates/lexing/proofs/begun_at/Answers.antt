@@ -1,3 +1,4 @@
+-- `lexing::begun_at`: the answers to the goals that the check leaves.
 use Rattle.lexing.proofs.Scans.{begins-end, begins-word, begins-number, begins-line, begins-comment, begins-wrong}
 use mathlib.Core.Path.{sym, ◌∙◌}
 use Rattle.lexing.proofs.begun_at.Goals as goal

@@ -1,3 +1,4 @@
+-- `lexing::between`: the answers to the goals that the check leaves.
 use borrow.Author.Tests.{le-leb, lt-leb}
 use Rattle.lexing.proofs.between.Goals as goal
 

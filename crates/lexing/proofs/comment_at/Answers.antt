@@ -1,3 +1,4 @@
+-- `lexing::comment_at`: the answers to the goals that the check leaves.
 use Rattle.lexing.proofs.Scans.{end-stands, line-stands}
 use Rattle.lexing.proofs.comment_at.Goals as goal
 

@@ -1,3 +1,4 @@
+-- `lexing::digit_at`: the answers to the goals that the check leaves.
 use Rattle.lexing.proofs.Scans.{digit-none, digit-here}
 use mathlib.Core.Path.{sym, ◌∙◌}
 use Rattle.lexing.proofs.digit_at.Goals as goal

@@ -1,3 +1,4 @@
+-- `lexing::end_of`: what its loops keep, and by what they end.
 use mathlib.Core.Path.{◌≡◌}
 use Prim.Native.Nat.{◌-◌, ◌≤◌}
 use Rattle.lexing.specs.Tokens.{past}

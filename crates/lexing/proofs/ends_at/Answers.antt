@@ -1,3 +1,4 @@
+-- `lexing::ends_at`: the answers to the goals that the check leaves.
 use Rattle.lexing.proofs.Scans.{ends-none, ends-here}
 use borrow.Author.Tests.{le-leb, lt-leb}
 use mathlib.Core.Path.{sym, ◌∙◌}

@@ -1,3 +1,4 @@
+-- `lexing::is_blank`: the answers to the goals that the check leaves.
 use borrow.Author.Tests.{le-leb, lt-leb}
 use Rattle.lexing.proofs.is_blank.Goals as goal
 

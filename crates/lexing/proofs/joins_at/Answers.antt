@@ -1,3 +1,4 @@
+-- `lexing::joins_at`: the answers to the goals that the check leaves.
 use Rattle.lexing.proofs.Scans.{joins-none, joins-here}
 use borrow.Author.Tests.{eq-eqb, ne_eqb}
 use mathlib.Core.Path.{sym, ◌∙◌}

@@ -1,3 +1,4 @@
+-- `lexing::next`: the answers to the goals that the check leaves.
 use Rattle.lexing.specs.Tokens.{next_of}
 use Rattle.lexing.proofs.next.Goals as goal
 

@@ -1,3 +1,4 @@
+-- `lexing::number_at`: the answers to the goals that the check leaves.
 use Rattle.lexing.proofs.Scans.{number-stands, number-joins, number-wrong}
 use mathlib.Core.Path.{sym, ◌∙◌}
 use Rattle.lexing.proofs.number_at.Goals as goal

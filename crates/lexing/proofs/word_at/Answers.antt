@@ -1,3 +1,4 @@
+-- `lexing::word_at`: the answers to the goals that the check leaves.
 use Rattle.lexing.proofs.Scans.{word_stands, word-wrong}
 use mathlib.Core.Path.{sym, ◌∙◌}
 use Rattle.lexing.proofs.word_at.Goals as goal

@@ -1,3 +1,4 @@
+-- `listing::list_none`: the answers to the goals that the check leaves.
 use mathlib.Core.Path.{refl}
 use Rattle.listing.specs.Listing.{no_listing}
 use Rattle.listing.proofs.list_none.Goals as goal

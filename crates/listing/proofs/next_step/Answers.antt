@@ -1,3 +1,4 @@
+-- `listing::next_step`: the answers to the goals that the check leaves.
 use mathlib.Core.Path.{◌≡◌, sym, ◌∙◌, ap}
 use mathlib.Core.List.{List}
 use Prim.Native.Nat.{ℕ}

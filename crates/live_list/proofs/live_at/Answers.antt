@@ -1,3 +1,4 @@
+-- `live_list::live_at`: the answers to the goals that the check leaves.
 use mathlib.Core.Path.{◌∙◌}
 use borrow.Author.Tests.{le-ltb, lt-ltb}
 use Rattle.live_list.proofs.live_at.Goals as goal

@@ -1,3 +1,4 @@
+-- `live_list::no_live`: the answers to the goals that the check leaves.
 use Rattle.live_list.specs.List.{not_listed}
 use Rattle.live_list.proofs.no_live.Goals as goal
 

@@ -1,3 +1,4 @@
+-- `marking::put_bond`: the answers to the goals that the check leaves.
 -- a bond that is not there, and the call that found its rank
 use mathlib.Core.Path.{◌≡◌, sym, ◌∙◌}
 use mathlib.Core.Bool.{false}

@@ -1,3 +1,4 @@
+-- `marking_form::in_form`: the answers to the goals that the check leaves.
 -- the function's start, and the marking that was lent
 use mathlib.Core.Path.{◌≡◌, sym, ◌∙◌}
 use mathlib.Core.Bool.{Bool, ◌&&◌}

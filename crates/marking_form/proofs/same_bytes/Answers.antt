@@ -1,3 +1,4 @@
+-- `marking_form::same_bytes`: the answers to the goals that the check leaves.
 use mathlib.Core.Path.{◌≡◌, refl, sym, ◌∙◌}
 use native.Mathlib.Omega.{arith}
 use borrow.Author.Rules.{rules}

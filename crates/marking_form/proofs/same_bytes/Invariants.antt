@@ -1,3 +1,4 @@
+-- `marking_form::same_bytes`: what its loops keep, and by what they end.
 use mathlib.Core.Path.{◌≡◌}
 use Prim.Native.Nat.{◌-◌, ◌≤◌}
 use Rattle.net.specs.Tests.{all, table}

@@ -1,3 +1,4 @@
+-- `marking_form::same_marking`: the answers to the goals that the check leaves.
 -- the two markings that were lent
 use borrow.Author.Rules.{rules}
 use Rattle.marking.specs.declared.Marking.{Marking}

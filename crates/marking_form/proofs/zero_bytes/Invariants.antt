@@ -1,3 +1,4 @@
+-- `marking_form::zero_bytes`: what its loops keep, and by what they end.
 use mathlib.Core.Path.{◌≡◌}
 use mathlib.Core.Bool.{◌&&◌}
 use Prim.Native.Nat.{◌-◌}

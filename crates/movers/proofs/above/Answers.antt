@@ -1,3 +1,4 @@
+-- `movers::above`: the answers to the goals that the check leaves.
 use mathlib.Core.Path.{sym, ◌∙◌}
 use Rattle.movers.proofs.above.Goals as goal
 

@@ -1,3 +1,4 @@
+-- `movers::last_mover`: what its loops keep, and by what they end.
 use mathlib.Core.List.{List}
 use Prim.Native.Nat.{ℕ, ◌-◌, ◌<◌, ◌≤◌}
 use Rattle.net.specs.Limits.{max_bases, max_live}

@@ -1,3 +1,4 @@
+-- `movers::mover_or`: the answers to the goals that the check leaves.
 use mathlib.Core.Path.{sym, ◌∙◌}
 use Rattle.movers.proofs.mover_or.Goals as goal
 

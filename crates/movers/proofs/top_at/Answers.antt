@@ -1,3 +1,4 @@
+-- `movers::top_at`: the answers to the goals that the check leaves.
 use native.Mathlib.Omega.{arith}
 use mathlib.Core.Path.{◌≡◌, sym}
 use mathlib.Core.List.{List}

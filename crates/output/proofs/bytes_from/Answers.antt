@@ -1,3 +1,4 @@
+-- `output::bytes_from`: the answers to the goals that the check leaves.
 use Rattle.command_list.proofs.Parts.{no_part, cut-part, whole_part}
 use Rattle.output.proofs.bytes_from.Goals as goal
 

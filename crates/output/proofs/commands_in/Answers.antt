@@ -1,3 +1,4 @@
+-- `output::commands_in`: the answers to the goals that the check leaves.
 -- the bytes from a position on, where the position has another name; over any numbers, so that none of the limit's is computed
 use mathlib.Core.Path.{◌≡◌, ap, ◌∙◌}
 use mathlib.Core.List.{List}

@@ -1,3 +1,4 @@
+-- `output::put_refused`: the answers to the goals that the check leaves.
 use native.Mathlib.Omega.{arith}
 use Rattle.text.proofs.Digits.{digits-length}
 use Rattle.output.proofs.Answers.{refused-pieces}

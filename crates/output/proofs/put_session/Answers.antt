@@ -1,3 +1,4 @@
+-- `output::put_session`: the answers to the goals that the check leaves.
 use borrow.Author.Rules.{rules}
 use native.Mathlib.Omega.{arith}
 use Prim.Native.Nat.{◌≤◌}

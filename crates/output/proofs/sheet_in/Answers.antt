@@ -1,3 +1,4 @@
+-- `output::sheet_in`: the answers to the goals that the check leaves.
 use mathlib.Core.Path.{ap, ◌∙◌}
 use Prim.Native.Nat.{ℕ}
 use lib.ListN.{take, drop}

@@ -1,3 +1,4 @@
+-- `output::write_output`: the answers to the goals that the check leaves.
 use Rattle.output.proofs.Starts.{start-accepted, start-refused, few_bytes, written-accepted, written-refused}
 use Rattle.output.proofs.write_output.Goals as goal
 

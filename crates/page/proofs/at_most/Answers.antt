@@ -1,3 +1,4 @@
+-- `page::at_most`: the answers to the goals that the check leaves.
 use borrow.Author.Tests.{le-ltb, lt-ltb}
 use Rattle.page.proofs.at_most.Goals as goal
 

@@ -1,3 +1,4 @@
+-- `page::no_rows`: the answers to the goals that the check leaves.
 use mathlib.Core.Path.{refl}
 use Rattle.page.specs.Rows.{no_rows}
 use Rattle.page.proofs.no_rows.Goals as goal

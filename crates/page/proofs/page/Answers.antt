@@ -1,3 +1,4 @@
+-- `page::page`: the answers to the goals that the check leaves.
 use mathlib.Core.Path.{ap, ◌∙◌}
 use mathlib.Core.List.{List, foldl}
 use lib.Seq.{take_all}

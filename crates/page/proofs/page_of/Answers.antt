@@ -1,3 +1,4 @@
+-- `page::page_of`: the answers to the goals that the check leaves.
 use mathlib.Core.Path.{◌≡◌, subst}
 use mathlib.Core.List.{List}
 use borrow.Author.Rules.{rules}

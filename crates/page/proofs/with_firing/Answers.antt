@@ -1,3 +1,4 @@
+-- `page::with_firing`: the answers to the goals that the check leaves.
 use borrow.Author.Tests.{le-leb, lt-leb}
 use Rattle.page.specs.Rows.{with_firing}
 use Rattle.page.proofs.with_firing.Goals as goal

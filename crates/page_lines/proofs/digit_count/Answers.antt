@@ -1,3 +1,4 @@
+-- `page_lines::digit_count`: the answers to the goals that the check leaves.
 use Rattle.page_lines.proofs.Lines.{digits_1, digits_2, digits_3, digits_4, digits_5}
 use native.Mathlib.Omega.{arith}
 use Rattle.page_lines.proofs.digit_count.Goals as goal

@@ -1,3 +1,4 @@
+-- `page_lines::lay_page`: the answers to the goals that the check leaves.
 use native.Mathlib.Omega.{arith}
 use mathlib.Core.Path.{◌∙◌, sym}
 use lib.ListN.{length}

@@ -1,3 +1,4 @@
+-- `page_lines::page_refusal`: the answers to the goals that the check leaves.
 use native.Mathlib.Omega.{arith}
 use Prim.Native.Nat.{◌<◌, ◌≤◌}
 use borrow.Author.Tests.{le-leb, le-ltb, lt-leb, lt-ltb}

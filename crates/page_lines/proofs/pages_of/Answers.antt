@@ -1,3 +1,4 @@
+-- `page_lines::pages_of`: the answers to the goals that the check leaves.
 use borrow.Author.Tests.{eq-eqb, ne_eqb}
 use Rattle.page_lines.proofs.pages_of.Goals as goal
 

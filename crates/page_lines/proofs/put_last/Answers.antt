@@ -1,3 +1,4 @@
+-- `page_lines::put_last`: the answers to the goals that the check leaves.
 use native.Mathlib.Omega.{arith}
 use Rattle.page_lines.proofs.Lines.{last-pieces}
 use Rattle.text.proofs.Digits.{digits-length}

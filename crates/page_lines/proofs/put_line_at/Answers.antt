@@ -1,3 +1,4 @@
+-- `page_lines::put_line_at`: the answers to the goals that the check leaves.
 use Rattle.page_lines.proofs.Lines.{blank-pieces, line_of, line-past}
 use Rattle.page_lines.proofs.put_line_at.Goals as goal
 

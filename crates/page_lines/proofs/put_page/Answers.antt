@@ -1,3 +1,4 @@
+-- `page_lines::put_page`: the answers to the goals that the check leaves.
 use native.Mathlib.Omega.{arith}
 use Rattle.page_lines.proofs.Lines.{page-pieces}
 use Rattle.page_lines.specs.Page.{page_lines, rows_in}

@@ -1,3 +1,4 @@
+-- `page_lines::put_right`: the answers to the goals that the check leaves.
 use native.Mathlib.Omega.{arith}
 use Prim.Native.Nat.{◌-◌}
 use Rattle.page_lines.proofs.Lines.{blanks-length, right-length, right-pieces}

@@ -1,3 +1,4 @@
+-- `page_lines::put_row`: the answers to the goals that the check leaves.
 use native.Mathlib.Omega.{arith}
 use Rattle.page_lines.proofs.Lines.{fits-3, fits-4, fits-5, row-pieces}
 use Rattle.page_lines.specs.Page.{row}

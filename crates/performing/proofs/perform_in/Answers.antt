@@ -1,3 +1,4 @@
+-- `performing::perform_in`: the answers to the goals that the check leaves.
 -- what was lent
 use borrow.Author.Tests.{lt-ltb, le-ltb}
 use mathlib.Core.Path.{refl, ap, sym, ◌∙◌}

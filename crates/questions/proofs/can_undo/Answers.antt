@@ -1,3 +1,4 @@
+-- `questions::can_undo`: the answers to the goals that the check leaves.
 use mathlib.Core.Path.{◌∙◌}
 use Rattle.sound.proofs.Holds.{live-few, keys-rise}
 use Rattle.questions.proofs.LampsAsked.{lamp-refused, lamp-asked}

@@ -1,3 +1,4 @@
+-- `questions::lamps`: the answers to the goals that the check leaves.
 use Rattle.sound.proofs.Holds.{keys-rise}
 use Rattle.questions.proofs.LampsAsked.{lamps-refused, lamps-shown}
 use Rattle.questions.proofs.lamps.Goals as goal

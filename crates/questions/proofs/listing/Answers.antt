@@ -1,3 +1,4 @@
+-- `questions::listing`: the answers to the goals that the check leaves.
 use Rattle.sound.proofs.Holds.{live-few, firings-sized}
 use Rattle.questions.proofs.ListingAsked.{listing-refused, listing-asked}
 use Rattle.questions.proofs.listing.Goals as goal

@@ -1,3 +1,4 @@
+-- `questions::live_firings`: the answers to the goals that the check leaves.
 use Rattle.questions.proofs.LiveAsked.{list-refused, list-given}
 use Rattle.questions.proofs.live_firings.Goals as goal
 

@@ -1,3 +1,4 @@
+-- `questions::spread`: the answers to the goals that the check leaves.
 use Rattle.sound.proofs.Holds.{live-few, keys-rise}
 use Rattle.questions.proofs.SpreadAsked.{spread-refused, spread-asked}
 use Rattle.questions.proofs.spread.Goals as goal

@@ -1,3 +1,4 @@
+-- `questions::way_back`: the answers to the goals that the check leaves.
 use mathlib.Core.Path.{◌∙◌}
 use Rattle.questions.proofs.WayAsked.{way-refused, way_asked, way-number}
 use Rattle.questions.proofs.way_back.Goals as goal

@@ -1,3 +1,4 @@
+-- `reading::read_part`: the answers to the goals that the check leaves.
 use native.Mathlib.Omega.{arith}
 use Rattle.reading.proofs.Rooms.{front-stays, part_length}
 use Rattle.reading.proofs.read_part.Goals as goal

@@ -1,3 +1,4 @@
+-- `reasons::first_away`: the answers to the goals that the check leaves.
 use borrow.Author.Rules.{rules}
 use native.Mathlib.Omega.{arith}
 use mathlib.Core.Path.{◌≡◌, refl, sym, subst, ◌∙◌}

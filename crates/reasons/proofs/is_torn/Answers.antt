@@ -1,3 +1,4 @@
+-- `reasons::is_torn`: the answers to the goals that the check leaves.
 use mathlib.Core.Path.{ap}
 use mathlib.Core.Bool.{Bool, not, ◌&&◌}
 use lib.Dec.{eqb}

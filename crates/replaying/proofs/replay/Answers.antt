@@ -1,3 +1,4 @@
+-- `replaying::replay`: the answers to the goals that the check leaves.
 -- the run from the start is the run of the firings that are left, from the marking that the arrays hold
 use borrow.Author.Rules.{rules}
 use borrow.Author.Tests.{not-true, not-false}

@@ -1,3 +1,4 @@
+-- `replaying::replay`: what its loops keep, and by what they end.
 -- the run from the start is the run of the firings that are left, from the marking that the arrays hold
 use Prim.Native.Nat.{ℕ, ◌-◌, ◌^◌, ◌<◌, ◌≤◌}
 use lib.ListN.{get_or}

@@ -1,3 +1,4 @@
+-- `replaying::replay_one`: the answers to the goals that the check leaves.
 -- the function's start, and the marking that was lent
 use mathlib.Core.Path.{refl}
 use mathlib.Core.Bool.{false}

@@ -1,3 +1,4 @@
+-- `replaying::runs_to`: the answers to the goals that the check leaves.
 -- the function's start, the marking that the run begins with, the lines, and the end that is looked for
 use borrow.Author.Rules.{rules}
 use borrow.Author.Tests.{not-true, not-false}

@@ -1,3 +1,4 @@
+-- `report::answer_line`: the answers to the goals that the check leaves.
 use borrow.Author.Tests.{lt-ltb, le-ltb}
 use Rattle.report.specs.declared.Written.{Written}
 use Rattle.report.specs.Lines.{min_line, written_of, buffer_of}

@@ -1,3 +1,4 @@
+-- `report::put_answer`: the answers to the goals that the check leaves.
 use Rattle.report.proofs.Pieces.{word-fired, word-undone, word-refused}
 use Rattle.report.proofs.put_answer.Goals as goal
 

@@ -1,3 +1,4 @@
+-- `report::put_line`: the answers to the goals that the check leaves.
 use Rattle.text.proofs.Digits.{digits-length}
 use Rattle.report.proofs.Pieces.{room, below-limit, pieces}
 use Rattle.report.proofs.Whole.{words-fit}

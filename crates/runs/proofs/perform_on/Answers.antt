@@ -1,3 +1,4 @@
+-- `runs::perform_on`: the answers to the goals that the check leaves.
 use borrow.Author.Rules.{rules}
 use Rattle.replaying.proofs.Lines.{placed-fits, placed-ends}
 use Rattle.sound.proofs.Holds.{placed}

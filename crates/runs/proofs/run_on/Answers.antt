@@ -1,3 +1,4 @@
+-- `runs::run_on`: the answers to the goals that the check leaves.
 -- the labels are those of the bonds, and all is as after the first i commands; what was held at the start is sound
 use borrow.Author.Rules.{rules}
 use native.Mathlib.Omega.{arith}

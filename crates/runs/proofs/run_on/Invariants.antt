@@ -1,3 +1,4 @@
+-- `runs::run_on`: what its loops keep, and by what they end.
 -- the labels are those of the bonds, and all is as after the first i commands; what was held at the start is sound
 use mathlib.Core.Path.{◌≡◌}
 use Prim.Native.Nat.{◌-◌, ◌*◌, ◌<◌, ◌≤◌}

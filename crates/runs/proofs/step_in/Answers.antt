@@ -1,3 +1,4 @@
+-- `runs::step_in`: the answers to the goals that the check leaves.
 -- what the arrays hold after the command
 use mathlib.Core.Path.{refl}
 use Rattle.marking.specs.declared.Marking.{Marking}

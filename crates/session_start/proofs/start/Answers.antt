@@ -1,3 +1,4 @@
+-- `session_start::start`: the answers to the goals that the check leaves.
 use mathlib.Core.Path.{sym, ◌∙◌}
 use Rattle.replaying.proofs.Starts.{start_fits}
 use Rattle.sound.proofs.Refusing.{sheet-clear}

@@ -1,3 +1,4 @@
+-- `sheet::check_sheet`: the answers to the goals that the check leaves.
 use Rattle.sheet.proofs.Order.{answered-none, answered-one}
 use Rattle.sheet.proofs.check_sheet.Goals as goal
 

@@ -1,3 +1,4 @@
+-- `sheet::head_refusal`: the answers to the goals that the check leaves.
 -- where a check is passed, the first that holds is among the rest
 use Rattle.net.specs.Checks.{first}
 use Rattle.sheet.specs.Checks.{head_checks}

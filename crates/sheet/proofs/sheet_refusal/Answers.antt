@@ -1,3 +1,4 @@
+-- `sheet::sheet_refusal`: the answers to the goals that the check leaves.
 use Rattle.sheet.proofs.Order.{head-left, head-on}
 use mathlib.Core.Path.{◌∙◌}
 use Rattle.sheet.proofs.sheet_refusal.Goals as goal

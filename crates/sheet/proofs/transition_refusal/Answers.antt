@@ -1,3 +1,4 @@
+-- `sheet::transition_refusal`: the answers to the goals that the check leaves.
 use Rattle.sheet.proofs.Order.{refused-7, refused-8, refused-9, refused_none}
 use mathlib.Core.Path.{sym, ◌∙◌}
 use Rattle.sheet.proofs.transition_refusal.Goals as goal

@@ -1,3 +1,4 @@
+-- `sheet::transitions_refusal`: the answers to the goals that the check leaves.
 use Rattle.sheet.proofs.Order.{from-left, from_on, from_end}
 use borrow.Author.Rules.{rules}
 use mathlib.Core.Path.{sym, ◌∙◌}

@@ -1,3 +1,4 @@
+-- `sheet::transitions_refusal`: what its loops keep, and by what they end.
 use Rattle.sheet.specs.Checks.{checks_from}
 use Rattle.format.specs.Parts.{transitions_of}
 use Rattle.net.specs.Checks.{first}

@@ -1,3 +1,4 @@
+-- `sheet_again::read_printed`: the answers to the goals that the check leaves.
 use native.Mathlib.Omega.{arith}
 use mathlib.Core.Path.{sym, ap, ◌∙◌}
 use lib.Seq.{length-take-le}

@@ -1,3 +1,4 @@
+-- `sheet_arcs::entries_ascend`: the answers to the goals that the check leaves.
 use Rattle.sheet_arcs.proofs.Tests.{base_before}
 use Rattle.format.proofs.Loops.{ascends-on, ascends-left, ascends-end}
 use Rattle.format.specs.Arcs.{entry_count, nth_entry}

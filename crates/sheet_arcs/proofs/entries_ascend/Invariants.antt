@@ -1,3 +1,4 @@
+-- `sheet_arcs::entries_ascend`: what its loops keep, and by what they end.
 use Rattle.sheet_arcs.proofs.Tests.{base_before}
 use Rattle.format.proofs.Loops.{self, below}
 use Rattle.format.specs.Arcs.{entry_count, nth_entry}

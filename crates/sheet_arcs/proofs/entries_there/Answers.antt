@@ -1,3 +1,4 @@
+-- `sheet_arcs::entries_there`: the answers to the goals that the check leaves.
 use Rattle.format.proofs.Loops.{all-on, all_left, all_end}
 use Rattle.format.specs.Arcs.{entry_count, nth_entry}
 use Rattle.net.specs.Rules.{entry_rule}

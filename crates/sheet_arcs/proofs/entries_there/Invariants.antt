@@ -1,3 +1,4 @@
+-- `sheet_arcs::entries_there`: what its loops keep, and by what they end.
 use Rattle.format.specs.Arcs.{entry_count, nth_entry}
 use Rattle.net.specs.Rules.{entry_rule}
 use Rattle.net.specs.Tests.{all, table}

@@ -1,3 +1,4 @@
+-- `sheet_arcs::entry_there`: the answers to the goals that the check leaves.
 use borrow.Author.Tests.{lt-ltb, le-ltb}
 use Rattle.sheet_arcs.proofs.entry_there.Goals as goal
 

@@ -1,3 +1,4 @@
+-- `sheet_arcs::wrong_entries`: the answers to the goals that the check leaves.
 use Rattle.sheet_arcs.specs.Conditions.{wrong_entries}
 use mathlib.Core.Path.{sym, ◌∙◌}
 use Rattle.sheet_arcs.proofs.wrong_entries.Goals as goal

@@ -1,3 +1,4 @@
+-- `sheet_arcs::wrong_width`: the answers to the goals that the check leaves.
 use Rattle.sheet_arcs.specs.Conditions.{wrong_width}
 use borrow.Author.Tests.{eq-eqb, ne_eqb}
 use Rattle.sheet_arcs.proofs.wrong_width.Goals as goal

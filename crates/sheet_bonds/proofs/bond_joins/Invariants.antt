@@ -1,3 +1,4 @@
+-- `sheet_bonds::bond_joins`: what its loops keep, and by what they end.
 use Rattle.sheet_bonds.proofs.Tests.{starting}
 use Rattle.format.specs.Arcs.{entry_count, nth_entry, arcs_in}
 use Rattle.net.specs.Tests.{any, table}

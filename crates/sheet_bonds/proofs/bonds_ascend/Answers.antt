@@ -1,3 +1,4 @@
+-- `sheet_bonds::bonds_ascend`: the answers to the goals that the check leaves.
 use Rattle.format.proofs.Loops.{ascends-on, ascends-left, ascends-end}
 use Rattle.format.specs.Sides.{bond_count, nth_bond}
 use Rattle.net.specs.Net.{less_bond}

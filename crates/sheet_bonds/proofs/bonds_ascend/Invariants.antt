@@ -1,3 +1,4 @@
+-- `sheet_bonds::bonds_ascend`: what its loops keep, and by what they end.
 use Rattle.format.proofs.Loops.{self, below}
 use Rattle.format.specs.Sides.{bond_count, nth_bond}
 use Rattle.net.specs.Net.{less_bond}

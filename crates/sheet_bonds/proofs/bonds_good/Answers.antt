@@ -1,3 +1,4 @@
+-- `sheet_bonds::bonds_good`: the answers to the goals that the check leaves.
 use mathlib.Core.Path.{sym, ◌∙◌}
 use Rattle.sheet_bonds.proofs.bonds_good.Goals as goal
 

@@ -1,3 +1,4 @@
+-- `sheet_bonds::bonds_join`: the answers to the goals that the check leaves.
 use Rattle.format.proofs.Loops.{all-on, all_left, all_end}
 use Rattle.format.specs.Sides.{bond_count, nth_bond}
 use Rattle.sheet_bonds.specs.Sides.{side_of}

@@ -1,3 +1,4 @@
+-- `sheet_bonds::bonds_join`: what its loops keep, and by what they end.
 use Rattle.format.specs.Sides.{bond_count, nth_bond}
 use Rattle.sheet_bonds.specs.Sides.{side_of}
 use Rattle.format.specs.Arcs.{arcs_in}

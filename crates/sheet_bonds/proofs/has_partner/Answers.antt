@@ -1,3 +1,4 @@
+-- `sheet_bonds::has_partner`: the answers to the goals that the check leaves.
 use Rattle.sheet_bonds.proofs.Tests.{partner}
 use Rattle.format.proofs.Loops.{any-on, any_left, any-end}
 use Rattle.format.specs.Arcs.{entry_count, nth_entry}

@@ -1,3 +1,4 @@
+-- `sheet_bonds::has_partner`: what its loops keep, and by what they end.
 use Rattle.sheet_bonds.proofs.Tests.{partner}
 use Rattle.format.specs.Arcs.{entry_count, nth_entry}
 use Rattle.net.specs.Tests.{any, table}

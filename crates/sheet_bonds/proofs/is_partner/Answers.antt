@@ -1,3 +1,4 @@
+-- `sheet_bonds::is_partner`: the answers to the goals that the check leaves.
 use borrow.Author.Tests.{eq-eqb, ne_eqb}
 use Rattle.sheet_bonds.proofs.is_partner.Goals as goal
 

@@ -1,3 +1,4 @@
+-- `sheet_bonds::starts`: the answers to the goals that the check leaves.
 use borrow.Author.Tests.{eq-eqb, ne_eqb}
 use Rattle.sheet_bonds.proofs.starts.Goals as goal
 

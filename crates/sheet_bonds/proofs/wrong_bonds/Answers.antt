@@ -1,3 +1,4 @@
+-- `sheet_bonds::wrong_bonds`: the answers to the goals that the check leaves.
 use Rattle.sheet_bonds.proofs.Tests.{in-wrong, out-wrong}
 use mathlib.Core.Path.{sym, ◌∙◌}
 use Rattle.sheet_bonds.proofs.wrong_bonds.Goals as goal

@@ -1,3 +1,4 @@
+-- `sheet_draft::make`: the answers to the goals that the check leaves.
 use Rattle.sheet_draft.proofs.Makes.{is-understood, too_long, to_make, made}
 use borrow.Author.Tests.{not-true, not-false}
 use lib.Seq.{length-take-le}

@@ -1,3 +1,4 @@
+-- `sheet_draft::make_sheet`: the answers to the goals that the check leaves.
 use Rattle.sheet_draft.proofs.Sheet.{few-parts, few-steps, all_fit}
 use Rattle.sheet_draft.specs.Bytes.{count_of, counts_fit}
 use Rattle.sheet_draft.specs.declared.Made.TheVariants.{Sheet}

@@ -1,3 +1,4 @@
+-- `sheet_draft::read_sheet`: the answers to the goals that the check leaves.
 use Rattle.sheet_draft.proofs.Makes.{mistaken}
 use Rattle.sheet_text.specs.declared.Mistake as M
 use mathlib.Core.Path.{ap, sym, ◌∙◌}

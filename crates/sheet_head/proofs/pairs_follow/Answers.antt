@@ -1,3 +1,4 @@
+-- `sheet_head::pairs_follow`: the answers to the goals that the check leaves.
 use native.Mathlib.Omega.{arith}
 use Rattle.sheet_head.proofs.Pairs.{follow-left, follow-on, follow-end}
 use borrow.Author.Rules.{rules}

@@ -1,3 +1,4 @@
+-- `sheet_head::pairs_follow`: what its loops keep, and by what they end.
 use Rattle.sheet_head.specs.Conditions.{follow, parts_begin}
 use Rattle.format.specs.Parts.{pairs_of}
 use mathlib.Core.Path.{◌≡◌}

@@ -1,3 +1,4 @@
+-- `sheet_head::places_there`: the answers to the goals that the check leaves.
 use Rattle.format.proofs.Loops.{all-on, all_left, all_end, all_list}
 use lib.Dec.{ltb}
 use borrow.Author.Tests.{lt-ltb, le-ltb}

@@ -1,3 +1,4 @@
+-- `sheet_head::places_there`: what its loops keep, and by what they end.
 use Rattle.net.specs.Tests.{all, table}
 use lib.Dec.{ltb}
 use mathlib.Core.Bool.{true}

@@ -1,3 +1,4 @@
+-- `sheet_head::start_bond_fits`: the answers to the goals that the check leaves.
 use borrow.Author.Tests.{lt-ltb, le-ltb}
 use Rattle.sheet_head.proofs.start_bond_fits.Goals as goal
 

@@ -1,3 +1,4 @@
+-- `sheet_head::start_bonds_ascend`: the answers to the goals that the check leaves.
 use Rattle.format.proofs.Loops.{ascends-left, ascends-end, ascends-on}
 use Rattle.format.specs.NetOf.{start_bond_count, nth_start_bond}
 use Rattle.net.specs.Net.{less_bond}

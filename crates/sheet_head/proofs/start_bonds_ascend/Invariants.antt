@@ -1,3 +1,4 @@
+-- `sheet_head::start_bonds_ascend`: what its loops keep, and by what they end.
 use Rattle.format.proofs.Loops.{self, below}
 use Rattle.format.specs.NetOf.{start_bond_count, nth_start_bond}
 use Rattle.net.specs.Net.{less_bond}

@@ -1,3 +1,4 @@
+-- `sheet_head::start_bonds_fit`: the answers to the goals that the check leaves.
 use Rattle.format.proofs.Loops.{all-on, all_left, all_end}
 use Rattle.format.specs.NetOf.{start_bond_count, nth_start_bond, start_marking}
 use Rattle.format.specs.Parts.{bases_of}

@@ -1,3 +1,4 @@
+-- `sheet_head::start_bonds_fit`: what its loops keep, and by what they end.
 use Rattle.format.specs.NetOf.{start_bond_count, nth_start_bond, start_marking}
 use Rattle.format.specs.Parts.{bases_of}
 use Rattle.net.specs.Rules.{start_bond_rule}

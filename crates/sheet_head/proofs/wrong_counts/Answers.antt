@@ -1,3 +1,4 @@
+-- `sheet_head::wrong_counts`: the answers to the goals that the check leaves.
 use Rattle.sheet_head.specs.Conditions.{wrong_counts}
 use Rattle.sheet_head.proofs.wrong_counts.Goals as goal
 

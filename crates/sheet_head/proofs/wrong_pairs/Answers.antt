@@ -1,3 +1,4 @@
+-- `sheet_head::wrong_pairs`: the answers to the goals that the check leaves.
 use Rattle.sheet_head.specs.Conditions.{wrong_pairs}
 use borrow.Author.Tests.{lt-ltb, le-ltb}
 use Rattle.sheet_head.proofs.wrong_pairs.Goals as goal

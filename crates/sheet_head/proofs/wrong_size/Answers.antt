@@ -1,3 +1,4 @@
+-- `sheet_head::wrong_size`: the answers to the goals that the check leaves.
 use Rattle.sheet_head.specs.Conditions.{wrong_size}
 use borrow.Author.Tests.{lt-ltb, le-ltb}
 use Rattle.sheet_head.proofs.wrong_size.Goals as goal

@@ -1,3 +1,4 @@
+-- `sheet_head::wrong_start_bonds`: the answers to the goals that the check leaves.
 use Rattle.sheet_head.specs.Conditions.{wrong_start_bonds}
 use borrow.Author.Tests.{eq-eqb, ne_eqb}
 use mathlib.Core.Path.{sym, ◌∙◌}

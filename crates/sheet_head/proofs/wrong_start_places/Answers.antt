@@ -1,3 +1,4 @@
+-- `sheet_head::wrong_start_places`: the answers to the goals that the check leaves.
 use Rattle.sheet_head.specs.Conditions.{wrong_start_places}
 use borrow.Author.Tests.{eq-eqb, ne_eqb}
 use Rattle.sheet_head.proofs.wrong_start_places.Goals as goal

@@ -1,3 +1,4 @@
+-- `sheet_print::print_sheet`: the answers to the goals that the check leaves.
 use borrow.Author.Rules.{rules}
 use mathlib.Core.Path.{sym, ◌∙◌}
 use Rattle.sheet_print.proofs.Answers.{printed-text, printed-refused}

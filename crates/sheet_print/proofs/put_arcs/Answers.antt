@@ -1,3 +1,4 @@
+-- `sheet_print::put_arcs`: the answers to the goals that the check leaves.
 use native.Mathlib.Omega.{arith}
 use Rattle.format.specs.Arcs.{entry_count, in_count}
 use Rattle.sheet_print.proofs.Lists.{moves-upto, before-upto}

@@ -1,3 +1,4 @@
+-- `sheet_print::put_before`: the answers to the goals that the check leaves.
 use Rattle.text.specs.Ascii.{ascii}
 use Rattle.sheet_print.proofs.Lines.{before-row, wrote-bond}
 use Rattle.sheet_text.specs.declared.Line.TheVariants.{Before}

@@ -1,3 +1,4 @@
+-- `sheet_print::put_befores`: what its loops keep, and by what they end.
 use mathlib.Core.Path.{◌≡◌}
 use Prim.Native.Nat.{◌+◌, ◌-◌, ◌*◌, ◌≤◌}
 use lib.ListN.{length}

@@ -1,3 +1,4 @@
+-- `sheet_print::put_move`: the answers to the goals that the check leaves.
 use Rattle.sheet_print.proofs.Lines.{wrote-move}
 use Rattle.sheet_print.proofs.put_move.Goals as goal
 

@@ -1,3 +1,4 @@
+-- `sheet_print::put_named`: the answers to the goals that the check leaves.
 use Rattle.sheet_print.proofs.Lines.{wrote-named}
 use Rattle.sheet_print.proofs.put_named.Goals as goal
 

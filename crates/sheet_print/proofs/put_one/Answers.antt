@@ -1,3 +1,4 @@
+-- `sheet_print::put_one`: the answers to the goals that the check leaves.
 use native.Mathlib.Omega.{arith}
 use mathlib.Core.List.{[], ◌∷◌}
 use Rattle.sheet_print.specs.Pieces.{named}

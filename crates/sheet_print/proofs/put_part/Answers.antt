@@ -1,3 +1,4 @@
+-- `sheet_print::put_part`: the answers to the goals that the check leaves.
 use mathlib.Core.Path.{ap, ◌∙◌}
 use Prim.Native.Nat.{ℕ}
 use lib.ListN.{get_or}

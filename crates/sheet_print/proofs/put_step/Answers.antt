@@ -1,3 +1,4 @@
+-- `sheet_print::put_step`: the answers to the goals that the check leaves.
 use native.Mathlib.Omega.{arith}
 use Rattle.text.specs.Ascii.{ascii}
 use Rattle.sheet_print.proofs.Lines.{one-length}

@@ -1,3 +1,4 @@
+-- `sheet_print::put_steps`: the answers to the goals that the check leaves.
 use borrow.Author.Rules.{rules}
 use native.Mathlib.Omega.{arith}
 use mathlib.Core.Path.{◌≡◌}

@@ -1,3 +1,4 @@
+-- `sheet_print::put_two`: the answers to the goals that the check leaves.
 use native.Mathlib.Omega.{arith}
 use Rattle.sheet_print.specs.Pieces.{named, one}
 use Rattle.sheet_print.proofs.Lines.{wrote-both, named-length}

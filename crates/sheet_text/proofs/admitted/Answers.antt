@@ -1,3 +1,4 @@
+-- `sheet_text::admitted`: the answers to the goals that the check leaves.
 use mathlib.Core.Path.{◌∙◌}
 use Rattle.sheet_text.proofs.admitted.Goals as goal
 

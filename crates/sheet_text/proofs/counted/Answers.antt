@@ -1,3 +1,4 @@
+-- `sheet_text::counted`: the answers to the goals that the check leaves.
 use mathlib.Core.Path.{◌∙◌}
 use Rattle.sheet_text.proofs.counted.Goals as goal
 

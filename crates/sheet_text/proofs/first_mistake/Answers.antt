@@ -1,3 +1,4 @@
+-- `sheet_text::first_mistake`: the answers to the goals that the check leaves.
 use Rattle.sheet_text.proofs.FirstLine.{line-here, line-last}
 use Rattle.sheet_text.proofs.Rest.{rest-begin, rest-refused, rest-last, rest-on, rest_end, few-parts, few-steps}
 use borrow.Author.Rules.{rules}

@@ -1,3 +1,4 @@
+-- `sheet_text::first_mistake`: what its loops keep, and by what they end.
 use Rattle.sheet_text.proofs.Rest.{Rest}
 use Prim.Native.Nat.{◌+◌, ◌-◌, ◌≤◌}
 use lib.ListN.{length}

@@ -1,3 +1,4 @@
+-- `sheet_text::first_told`: the answers to the goals that the check leaves.
 use mathlib.Core.Path.{ap}
 use mathlib.Core.Bool.{not}
 use Rattle.sheet_text.proofs.first_told.Goals as goal

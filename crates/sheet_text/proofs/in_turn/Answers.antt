@@ -1,3 +1,4 @@
+-- `sheet_text::in_turn`: the answers to the goals that the check leaves.
 use borrow.Author.Tests.{eq-eqb, ne_eqb}
 use Rattle.sheet_text.proofs.in_turn.Goals as goal
 

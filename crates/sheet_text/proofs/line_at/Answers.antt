@@ -1,3 +1,4 @@
+-- `sheet_text::line_at`: the answers to the goals that the check leaves.
 use Rattle.sheet_text.proofs.FirstLine.{slice-take}
 use Rattle.sheet_text.proofs.line_at.Goals as goal
 

@@ -1,3 +1,4 @@
+-- `sheet_text::line_of`: the answers to the goals that the check leaves.
 use mathlib.Core.Bool.{true, false}
 use Rattle.lexing.specs.Tokens.{Token, row}
 use Rattle.sheet_text.specs.declared.Line.TheVariants.{Places, Part, Coupled, Step}

@@ -1,3 +1,4 @@
+-- `sheet_text::step_line`: the answers to the goals that the check leaves.
 use mathlib.Core.Bool.{true, false}
 use Rattle.lexing.specs.Tokens.{Token, row}
 use Rattle.sheet_text.specs.declared.Line.TheVariants.{Move, Before, After}

@@ -1,3 +1,4 @@
+-- `sound::is_sound`: the answers to the goals that the check leaves.
 use borrow.Author.Tests.{leb-true}
 use mathlib.Core.Path.{◌≡◌, refl, sym, ◌∙◌, subst}
 use mathlib.Core.Bool.{true, false, ◌&&◌}

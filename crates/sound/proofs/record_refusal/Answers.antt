@@ -1,3 +1,4 @@
+-- `sound::record_refusal`: the answers to the goals that the check leaves.
 use borrow.Author.Rules.{rules}
 use borrow.Author.Tests.{eqb-true}
 use mathlib.Core.Path.{◌≡◌, sym, ◌∙◌, ap}

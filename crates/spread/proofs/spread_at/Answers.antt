@@ -1,3 +1,4 @@
+-- `spread::spread_at`: the answers to the goals that the check leaves.
 use borrow.Author.Rules.{rules}
 use native.Mathlib.Omega.{arith}
 use Rattle.spread.proofs.Places.{from_one, from_more, from_end}

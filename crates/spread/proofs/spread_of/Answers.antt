@@ -1,3 +1,4 @@
+-- `spread::spread_of`: the answers to the goals that the check leaves.
 use mathlib.Core.Path.{◌∙◌, ap}
 use Rattle.spread.specs.Spread.{told}
 use Rattle.spread.proofs.Places.{told-live, told-missing}

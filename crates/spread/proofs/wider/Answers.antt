@@ -1,3 +1,4 @@
+-- `spread::wider`: the answers to the goals that the check leaves.
 use mathlib.Core.Path.{sym, ◌∙◌, ap}
 use mathlib.Core.Bool.{Bool}
 use Rattle.net.specs.Limits.{max_bases}

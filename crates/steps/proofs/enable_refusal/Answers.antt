@@ -1,3 +1,4 @@
+-- `steps::enable_refusal`: the answers to the goals that the check leaves.
 use mathlib.Core.Path.{◌≡◌, sym, ◌∙◌}
 use mathlib.Core.Bool.{false}
 use Prim.Native.Nat.{◌<◌}

@@ -1,3 +1,4 @@
+-- `steps::fire_in`: the answers to the goals that the check leaves.
 use mathlib.Core.Path.{◌∙◌}
 use borrow.Author.Rules.{rules}
 use Rattle.net.specs.Firing.{moved, fire}

@@ -1,3 +1,4 @@
+-- `steps::undo_in`: the answers to the goals that the check leaves.
 use mathlib.Core.Path.{◌∙◌}
 use Rattle.net.specs.Firing.{undo}
 use Rattle.words.specs.Sets.{set_of}

@@ -1,3 +1,4 @@
+-- `tally::counted`: the answers to the goals that the check leaves.
 use borrow.Author.Tests.{eq-eqb, ne_eqb}
 use Rattle.tally.specs.Counts.{counted_of}
 use Rattle.tally.proofs.counted.Goals as goal

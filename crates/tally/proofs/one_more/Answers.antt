@@ -1,3 +1,4 @@
+-- `tally::one_more`: the answers to the goals that the check leaves.
 use borrow.Author.Tests.{lt-ltb, le-ltb}
 use Rattle.tally.specs.Counts.{one_more}
 use Rattle.tally.proofs.one_more.Goals as goal

@@ -1,3 +1,4 @@
+-- `text::digit_count`: what its loops keep, and by what they end.
 use Prim.Native.Nat.{◌-◌, ◌≤◌, ◌<◌}
 use Rattle.text.proofs.Loops.{Counted}
 use Rattle.text.proofs.digit_count.Given as goal

@@ -1,3 +1,4 @@
+-- `text::put_word`: the answers to the goals that the check leaves.
 use lib.Seq.{take-length}
 use Rattle.text.proofs.Writes.{copied_more}
 use borrow.Author.Rules.{rules}

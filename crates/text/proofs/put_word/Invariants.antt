@@ -1,3 +1,4 @@
+-- `text::put_word`: what its loops keep, and by what they end.
 use lib.Seq.{sets}
 use mathlib.Core.Path.{◌≡◌}
 use Prim.Native.Nat.{◌+◌, ◌-◌, ◌≤◌}

@@ -1,3 +1,4 @@
+-- `undoing::undo_at`: the answers to the goals that the check leaves.
 -- the function's start, and what was lent
 use native.Mathlib.Omega.{arith}
 use Rattle.marking.specs.Held.{holding}

@@ -1,3 +1,4 @@
+-- `way_back::key_unless`: the answers to the goals that the check leaves.
 use Rattle.way_back.proofs.key_unless.Goals as goal
 
 pub returns-then-live : goal.returns-then-live

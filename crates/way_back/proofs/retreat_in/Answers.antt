@@ -1,3 +1,4 @@
+-- `way_back::retreat_in`: the answers to the goals that the check leaves.
 -- what was lent passes, the layout has a byte for each base, and the search has come as far as m and f with n turns to come
 use borrow.Author.Rules.{rules}
 use native.Mathlib.Omega.{arith}

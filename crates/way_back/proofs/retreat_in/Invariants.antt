@@ -1,3 +1,4 @@
+-- `way_back::retreat_in`: what its loops keep, and by what they end.
 -- what was lent passes, the layout has a byte for each base, and the search has come as far as m and f with n turns to come
 use mathlib.Core.Path.{◌≡◌}
 use mathlib.Core.List.{List}

@@ -1,3 +1,4 @@
+-- `way_back::turn`: the answers to the goals that the check leaves.
 -- what was lent
 use native.Mathlib.Omega.{arith}
 use mathlib.Core.Path.{ap, ◌∙◌}

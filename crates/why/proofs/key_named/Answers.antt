@@ -1,3 +1,4 @@
+-- `why::key_named`: the answers to the goals that the check leaves.
 use mathlib.Core.Path.{ap, ◌∙◌}
 use Rattle.net.specs.Journal.{key, highest_live, number_of}
 use Rattle.format.specs.Parts.{bases_of}

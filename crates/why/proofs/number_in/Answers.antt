@@ -1,3 +1,4 @@
+-- `why::number_in`: the answers to the goals that the check leaves.
 use mathlib.Core.Path.{ap, sym}
 use Rattle.commands.specs.Answers.{answer_number}
 use Rattle.why.proofs.number_in.Goals as goal

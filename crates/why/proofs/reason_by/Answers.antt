@@ -1,3 +1,4 @@
+-- `why::reason_by`: the answers to the goals that the check leaves.
 -- the reason of a number
 use borrow.Author.Rules.{rules}
 use mathlib.Core.Path.{ap, sym, ◌∙◌}

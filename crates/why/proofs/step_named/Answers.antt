@@ -1,3 +1,4 @@
+-- `why::step_named`: the answers to the goals that the check leaves.
 use mathlib.Core.Path.{ap, ◌∙◌}
 use Prim.Native.Nat.{ℕ}
 use Rattle.net.specs.Journal.{transition}

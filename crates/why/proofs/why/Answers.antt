@@ -1,3 +1,4 @@
+-- `why::why`: the answers to the goals that the check leaves.
 use mathlib.Core.Path.{◌∙◌}
 use Rattle.sound.proofs.Refusing.{kept-is}
 use Rattle.session.specs.Records.{Sound}

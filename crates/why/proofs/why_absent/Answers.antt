@@ -1,3 +1,4 @@
+-- `why::why_absent`: the answers to the goals that the check leaves.
 -- the function's start
 use Rattle.why.proofs.Items.{bonds-ready, absent-is}
 use Rattle.why.proofs.why_absent.Goals as goal

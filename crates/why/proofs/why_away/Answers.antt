@@ -1,3 +1,4 @@
+-- `why::why_away`: the answers to the goals that the check leaves.
 -- the function's start
 use Rattle.why.proofs.Items.{entries-low, away-low, away-is}
 use Rattle.why.proofs.why_away.Goals as goal

@@ -1,3 +1,4 @@
+-- `why::why_later`: the answers to the goals that the check leaves.
 -- the function's start
 use native.Mathlib.Omega.{arith}
 use Rattle.net.specs.Limits.{max_bases}

@@ -1,3 +1,4 @@
+-- `why::why_not_live`: the answers to the goals that the check leaves.
 use mathlib.Core.Path.{ap, ◌∙◌}
 use Prim.Native.Nat.{ℕ}
 use Rattle.net.specs.Journal.{key, number_of}

@@ -1,3 +1,4 @@
+-- `why::why_present`: the answers to the goals that the check leaves.
 -- the function's start
 use Rattle.why.proofs.Items.{bonds-ready, present-is}
 use Rattle.why.proofs.why_present.Goals as goal

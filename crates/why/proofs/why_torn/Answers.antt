@@ -1,3 +1,4 @@
+-- `why::why_torn`: the answers to the goals that the check leaves.
 -- the function's start
 use borrow.Author.Rules.{rules}
 use Rattle.replaying.proofs.Lines.{placed-ends}

@@ -1,3 +1,4 @@
+-- `words::count_bases`: the answers to the goals that the check leaves.
 use native.Mathlib.Omega.{arith}
 use borrow.Author.Rules.{rules}
 use lib.Count.{ones-le}

@@ -1,3 +1,4 @@
+-- `words::low_bits`: the answers to the goals that the check leaves.
 -- the branch of n below the number of bits
 use mathlib.Core.Path.{◌≡◌, ap, sym, subst, ◌∙◌}
 use Prim.Native.Nat.{ℕ, ◌+◌, ◌-◌, ◌^◌, ◌<◌, ◌≤◌}

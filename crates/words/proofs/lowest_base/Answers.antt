@@ -1,3 +1,4 @@
+-- `words::lowest_base`: the answers to the goals that the check leaves.
 use native.Mathlib.Omega.{arith}
 use borrow.Author.Rules.{rules}
 use Rattle.net.specs.Limits.{max_bases}

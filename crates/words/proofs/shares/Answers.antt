@@ -1,3 +1,4 @@
+-- `words::shares`: the answers to the goals that the check leaves.
 use borrow.Author.Rules.{rules}
 use Rattle.words.proofs.Bits.{meets}
 use Rattle.net.specs.Limits.{max_bases}

@@ -1,3 +1,4 @@
+-- `words::within`: the answers to the goals that the check leaves.
 use borrow.Author.Rules.{rules}
 use Rattle.net.specs.Limits.{max_bases}
 use Rattle.words.proofs.Bits.{within_of}

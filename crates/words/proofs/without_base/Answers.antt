@@ -1,3 +1,4 @@
+-- `words::without_base`: the answers to the goals that the check leaves.
 use mathlib.Core.Path.{ap, sym, subst, ◌∙◌}
 use Prim.Native.Nat.{ℕ, ◌<◌}
 use lib.Bits.{bit_and, bit_xor}

@@ -1,3 +1,4 @@
+-- `movers::table::mark`: what its loops keep, and by what they end.
 use mathlib.Core.Path.{◌≡◌}
 use lib.ListN.{length}
 use Rattle.net.specs.Limits.{max_bases}

@@ -1,3 +1,4 @@
+-- `movers::table::mark_back`: what its loops keep, and by what they end.
 use mathlib.Core.Path.{◌≡◌}
 use Prim.Native.Nat.{ℕ, ◌≤◌}
 use lib.ListN.{length}

@@ -1,3 +1,4 @@
+-- `movers::table::mark_shared`: the answers to the goals that the check leaves.
 use mathlib.Core.Path.{ap, ◌∙◌}
 use Prim.Native.Nat.{ℕ}
 use mathlib.Core.List.{List}

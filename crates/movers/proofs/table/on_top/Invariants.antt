@@ -1,3 +1,4 @@
+-- `movers::table::on_top`: what its loops keep, and by what they end.
 use mathlib.Core.Path.{◌≡◌}
 use Rattle.net.specs.Limits.{max_bases}
 use Rattle.words.specs.Sets.{set_of}

@@ -1,3 +1,4 @@
+-- `movers::table::pass_four`: the answers to the goals that the check leaves.
 use borrow.Author.Rules.{rules}
 use mathlib.Core.Path.{refl, sym, ◌∙◌}
 use Rattle.net.specs.Limits.{max_bases}

@@ -1,3 +1,4 @@
+-- `session::Record::answer`: the answers to the goals that the check leaves.
 use mathlib.Core.Path.{◌∙◌}
 use Rattle.session.proofs.Answering.{refused-by}
 use Rattle.session.proofs.Stays.{performs}

@@ -1,3 +1,4 @@
+-- `session::Record::command`: the answers to the goals that the check leaves.
 use mathlib.Core.Path.{◌≡◌, ap, ◌∙◌}
 use mathlib.Core.List.{List}
 use Prim.Native.Nat.{ℕ}

@@ -1,3 +1,4 @@
+-- `session::Record::hand_in`: the answers to the goals that the check leaves.
 -- the two tests, and the function's start
 use lib.ListN.{length}
 use Rattle.session.proofs.Blocks.{room, turned-away, not-turned, block-ran}

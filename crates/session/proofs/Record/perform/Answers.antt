@@ -1,3 +1,4 @@
+-- `session::Record::perform`: the answers to the goals that the check leaves.
 use mathlib.Core.Path.{◌∙◌}
 use Rattle.session.proofs.Stays.{did-performs}
 use Rattle.session.proofs.Record.perform.Goals as goal

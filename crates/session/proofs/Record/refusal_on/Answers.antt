@@ -1,3 +1,4 @@
+-- `session::Record::refusal_on`: the answers to the goals that the check leaves.
 use Rattle.session.proofs.Record.refusal_on.Goals as goal
 
 pub returns : goal.returns

@@ -1,3 +1,4 @@
+-- `session::run::run`: the answers to the goals that the check leaves.
 use Rattle.session.proofs.Turns.{run-gives}
 use Rattle.session.proofs.run.run.Goals as goal
 

@@ -1,3 +1,4 @@
+-- `sheet_draft::bytes::put_counted`: the answers to the goals that the check leaves.
 use Rattle.sheet_draft.proofs.Writing.{counted-written}
 use Rattle.sheet_draft.specs.Bytes.{tagged}
 use native.Mathlib.Omega.{arith}

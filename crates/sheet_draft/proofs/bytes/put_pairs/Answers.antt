@@ -1,3 +1,4 @@
+-- `sheet_draft::bytes::put_pairs`: the answers to the goals that the check leaves.
 use Rattle.sheet_draft.proofs.Writing.{joined-upto, all-pairs, pairs-written, joined-length-more}
 use Rattle.sheet_draft.specs.Bytes.{stretch_at}
 use Rattle.text.proofs.Writes.{written_none, written-pair}

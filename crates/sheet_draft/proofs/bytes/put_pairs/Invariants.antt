@@ -1,3 +1,4 @@
+-- `sheet_draft::bytes::put_pairs`: what its loops keep, and by what they end.
 use Rattle.sheet_draft.specs.Bytes.{stretches_in}
 use Rattle.text.proofs.Writes.{Written}
 use Rattle.encode.specs.Encoding.{pairs}

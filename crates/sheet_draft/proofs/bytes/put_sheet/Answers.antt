@@ -1,3 +1,4 @@
+-- `sheet_draft::bytes::put_sheet`: the answers to the goals that the check leaves.
 use Prim.Native.Nat.{◌+◌, ◌*◌}
 use Rattle.sheet_draft.proofs.Writing.{all-pairs, sheet-length, sheet-written}
 use native.Mathlib.Omega.{arith}

@@ -1,3 +1,4 @@
+-- `sheet_draft::bytes::put_some`: the answers to the goals that the check leaves.
 use Rattle.sheet_draft.proofs.Tagged.{bytes-length}
 use native.Mathlib.Omega.{arith}
 use mathlib.Core.Path.{sym}

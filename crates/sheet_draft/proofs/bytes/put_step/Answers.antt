@@ -1,3 +1,4 @@
+-- `sheet_draft::bytes::put_step`: the answers to the goals that the check leaves.
 use Rattle.sheet_draft.proofs.Writing.{step-length, step-written, few-moves, few-befores, few-afters}
 use native.Mathlib.Omega.{arith}
 use borrow.Author.Rules.{rules}

@@ -1,3 +1,4 @@
+-- `sheet_draft::bytes::put_stretch`: the answers to the goals that the check leaves.
 use Rattle.sheet_draft.proofs.Writing.{stretch-first, stretch-second, stretch-step, fits-step}
 use native.Mathlib.Omega.{arith}
 use mathlib.Core.Path.{ap}

@@ -1,3 +1,4 @@
+-- `sheet_draft::bytes::put_stretches`: the answers to the goals that the check leaves.
 use Rattle.sheet_draft.proofs.Writing.{joined-upto}
 use Rattle.sheet_draft.specs.Bytes.{stretch_at}
 use Rattle.text.proofs.Joined.{table-written}

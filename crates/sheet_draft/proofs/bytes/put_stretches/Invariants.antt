@@ -1,3 +1,4 @@
+-- `sheet_draft::bytes::put_stretches`: what its loops keep, and by what they end.
 use Rattle.sheet_draft.specs.Bytes.{AllFit, stretches_in}
 use Rattle.text.proofs.Writes.{Written}
 use Rattle.text.specs.Joined.{joined}

@@ -1,3 +1,4 @@
+-- `sheet_draft::bytes::put_tagged`: the answers to the goals that the check leaves.
 use Rattle.sheet_draft.proofs.Writing.{tagged-written}
 use lib.Seq.{take_all}
 use Rattle.sheet_draft.proofs.Tagged.{room-one}

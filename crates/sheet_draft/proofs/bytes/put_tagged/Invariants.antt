@@ -1,3 +1,4 @@
+-- `sheet_draft::bytes::put_tagged`: what its loops keep, and by what they end.
 use Rattle.sheet_draft.specs.Bytes.{tagged}
 use Rattle.text.proofs.Writes.{Written}
 use mathlib.Core.Path.{◌≡◌}

@@ -1,3 +1,4 @@
+-- `sheet_draft::bytes::step_size`: the answers to the goals that the check leaves.
 use Rattle.sheet_draft.proofs.Writing.{step-length}
 use native.Mathlib.Omega.{arith}
 use Rattle.sheet_draft.proofs.bytes.step_size.Goals as goal

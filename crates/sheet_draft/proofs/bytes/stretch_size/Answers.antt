@@ -1,3 +1,4 @@
+-- `sheet_draft::bytes::stretch_size`: the answers to the goals that the check leaves.
 use Rattle.sheet_draft.proofs.Writing.{stretch-first, stretch-second, stretch-step}
 use mathlib.Core.Path.{ap, sym, ◌∙◌}
 use lib.ListN.{length}

@@ -1,3 +1,4 @@
+-- `sheet_draft::bytes::tagged_size`: the answers to the goals that the check leaves.
 use Rattle.sheet_draft.proofs.Writing.{times-upto}
 use Rattle.sheet_draft.proofs.Tagged.{count-upto, tagged-length}
 use native.Mathlib.Omega.{arith}

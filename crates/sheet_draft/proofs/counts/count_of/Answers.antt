@@ -1,3 +1,4 @@
+-- `sheet_draft::counts::count_of`: the answers to the goals that the check leaves.
 use Rattle.sheet_draft.proofs.Tagged.{count-more, width-upto}
 use borrow.Author.Rules.{rules}
 use lib.Seq.{take_all}

@@ -1,3 +1,4 @@
+-- `sheet_draft::counts::count_of`: what its loops keep, and by what they end.
 use Rattle.sheet_draft.specs.Bytes.{count_of}
 use mathlib.Core.Path.{◌≡◌}
 use Prim.Native.Nat.{◌-◌, ◌≤◌}

@@ -1,3 +1,4 @@
+-- `sheet_draft::counts::counts_fit`: the answers to the goals that the check leaves.
 use Rattle.sheet_draft.specs.Bytes.{counts_fit}
 use Rattle.sheet_draft.proofs.Sheet.{byte, three-tests}
 use mathlib.Core.Path.{ap, ◌∙◌}

@@ -1,3 +1,4 @@
+-- `sheet_draft::counts::step_fits`: the answers to the goals that the check leaves.
 use Rattle.sheet_draft.proofs.Sheet.{byte, three-tests}
 use mathlib.Core.Path.{ap, ◌∙◌}
 use Rattle.sheet_draft.proofs.counts.step_fits.Goals as goal

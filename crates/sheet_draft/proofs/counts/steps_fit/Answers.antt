@@ -1,3 +1,4 @@
+-- `sheet_draft::counts::steps_fit`: the answers to the goals that the check leaves.
 use mathlib.Core.Bool.{◌&&◌}
 use Rattle.sheet_draft.specs.Bytes.{step_fits}
 use Rattle.net.proofs.Tables.{all_more}

@@ -1,3 +1,4 @@
+-- `sheet_draft::counts::steps_fit`: what its loops keep, and by what they end.
 use Rattle.sheet_draft.specs.Bytes.{step_fits}
 use Rattle.net.specs.Tests.{all, table}
 use mathlib.Core.Path.{◌≡◌}

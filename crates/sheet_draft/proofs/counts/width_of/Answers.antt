@@ -1,3 +1,4 @@
+-- `sheet_draft::counts::width_of`: the answers to the goals that the check leaves.
 use borrow.Author.Tests.{eq-eqb, ne_eqb}
 use Rattle.sheet_draft.proofs.counts.width_of.Goals as goal
 

@@ -1,3 +1,4 @@
+-- `sheet_draft::notes::collect`: the answers to the goals that the check leaves.
 use lib.ListN.{length-set}
 use Rattle.sheet_draft.proofs.Lines.{sofar-begin, sofar-on, note-small, too_large, collected, refused}
 use borrow.Author.Rules.{rules}

@@ -1,3 +1,4 @@
+-- `sheet_draft::notes::collect`: what its loops keep, and by what they end.
 use Rattle.sheet_draft.proofs.Lines.{Sofar}
 use mathlib.Core.Path.{◌≡◌}
 use Prim.Native.Nat.{◌+◌, ◌-◌}

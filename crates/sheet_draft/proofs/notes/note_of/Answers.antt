@@ -1,3 +1,4 @@
+-- `sheet_draft::notes::note_of`: the answers to the goals that the check leaves.
 use mathlib.Core.Path.{◌∙◌}
 use Rattle.sheet_draft.proofs.notes.note_of.Goals as goal
 
