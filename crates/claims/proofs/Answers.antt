@@ -1,4 +1,3 @@
--- `claims`: the answers to the goals that the check leaves.
 -- Demands 1 and 2: one command on any sheet, record and tally.
 -- Assumes nothing.
 use mathlib.Core.Path.{◌≡◌, refl, sym, ◌∙◌, ap, subst}

@@ -3,11 +3,11 @@
 use reading::read_all;
 use script::desk::run_script;
 use script_make::files::{make, show};
-use std::alloc::Global;
 use std::env::Env;
-use std::fs;
+use std::fmt::Write;
 use std::io::{Error, Read};
 use std::str::from_utf8;
+use std::{fmt, fs};
 
 // Room for a script or an input, for a sheet, and for the longest answer. Only their lengths matter.
 const TEXT: usize = 1048576;
@@ -71,25 +71,48 @@ pub fn take_file<R: Read>(task: Task, name: &[u8], input: &mut R) {
     }
 }
 
+// The text of an error, as far as it finds room.
+#[derive(Drop)]
+struct Words {
+    text: [u8; 256],
+    n: usize,
+}
+
+impl Write for Words {
+    fn write_str(&mut self, s: &str) -> fmt::Result {
+        for b in s.as_bytes() {
+            if self.n < 256 {
+                self.text[self.n] = *b;
+                self.n += 1;
+            }
+        }
+        Ok(())
+    }
+}
+
 // What the system says of an error; the library writes its number behind that.
-fn system_words(text: &str) -> &[u8] {
-    match text.find(" (os error ") {
-        Some(n) => &text.as_bytes()[..n],
-        None => text.as_bytes(),
+fn system_words(text: &[u8]) -> &[u8] {
+    match from_utf8(text) {
+        Ok(all) => match all.find(" (os error ") {
+            Some(n) => &all.as_bytes()[..n],
+            None => text,
+        },
+        Err(_) => text,
     }
 }
 
 // Says on standard error why a file was not opened.
-fn complain_of(alloc: Global, name: &[u8], error: Error) {
-    match format!(in alloc; "{error}") {
-        Ok(text) => {
-            io::write_all(2, name);
-            io::write_all(2, b": ");
-            io::write_all(2, system_words(text.as_str()));
-            io::write_all(2, b"\n");
-        }
-        Err(_) => complain(name, b": could not be opened\n"),
-    }
+fn complain_of(name: &[u8], error: Error) {
+    let mut words = Words {
+        text: [0; 256],
+        n: 0,
+    };
+    let _ = write!(words, "{error}");
+    let n = words.n.min(256);
+    io::write_all(2, name);
+    io::write_all(2, b": ");
+    io::write_all(2, system_words(&words.text[..n]));
+    io::write_all(2, b"\n");
 }
 
 // The file of that name. The library opens only names that are text.
@@ -100,7 +123,7 @@ fn take_path(rt: &HostRuntime, task: Task, path: &[u8]) {
                 let mut input = file;
                 take_file(task, path, &mut input);
             }
-            Err(error) => complain_of(rt.alloc(), path, error),
+            Err(error) => complain_of(path, error),
         },
         Err(_) => complain(path, b": the name is not text\n"),
     }

@@ -31,7 +31,7 @@ pub const LAYOUTS: usize = 18;
 
 pub const ALL: usize = 19;
 
-// The letters; how many commands the session was given, and of the first 1,000 each as one number (commands), with the second engine's reply.
+// The letters; how many commands the session was given, and of the first 1,000 each as one number (drawn), with the second engine's reply.
 const LETTERS: usize = 32;
 
 pub const NOTED: usize = 511;

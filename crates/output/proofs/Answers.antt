@@ -1,4 +1,3 @@
--- `output`: the answers to the goals that the check leaves.
 -- Laws of the lines of answers that are given as words and values: that they are the lines of the answers, and that the
 -- values are low. Assumes nothing.
 use mathlib.Core.Path.{◌≡◌, refl, ap, ◌∙◌}

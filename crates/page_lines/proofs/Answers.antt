@@ -1,4 +1,3 @@
--- `page_lines`: the answers to the goals that the check leaves.
 -- Laws of the answer to a page: where no refusal holds, and where one does.
 -- Assumes nothing.
 use mathlib.Core.Path.{◌≡◌, refl, sym, ◌∙◌}

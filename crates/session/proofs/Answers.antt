@@ -1,4 +1,3 @@
--- `session`: the answers to the goals that the check leaves.
 -- What an answer says: its number is that of the first check that holds, and no two answers say the same.
 -- Assumes nothing.
 use mathlib.Core.Path.{◌≡◌, refl, sym, ◌∙◌, ap}

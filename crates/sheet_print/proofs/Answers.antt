@@ -1,4 +1,3 @@
--- `sheet_print`: the answers to the goals that the check leaves.
 -- Printing a sheet: the pieces written one after the other, and one law for each answer.
 -- Assumes nothing.
 use mathlib.Core.Path.{◌≡◌, refl, ap, ◌∙◌}

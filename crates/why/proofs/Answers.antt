@@ -1,4 +1,3 @@
--- `why`: the answers to the goals that the check leaves.
 -- The reason of any command on any record and sheet: by the sheet, by the record, by the command's own number.
 -- Assumes nothing.
 use mathlib.Core.Path.{◌≡◌, refl, sym, ◌∙◌, ap}
