@@ -1,6 +1,7 @@
 -- `engine::take_out`: the answers to the goals that the check leaves.
-use mathlib.Core.Path.{ap, sym, ◌∙◌}
-use mathlib.Core.Bool.{not}
+use borrow.Author.Rules.{rules}
+use mathlib.Core.Path.{◌≡◌, ap, sym, ◌∙◌}
+use mathlib.Core.Bool.{false, not}
 use Rattle.format.specs.Sides.{side_bonds}
 use Rattle.marking.specs.declared.Marking.{Marking}
 use Rattle.marking.specs.Form.{bonds_of, with_bonds}
@@ -19,4 +20,6 @@ pub take_bond-requires : goal.take_bond-requires
 take_bond-requires c = c.requires
 
 pub returns : goal.returns
-returns c = c.take_bond.ensures ∙ ap (with_bonds (m (goal.at.returns c).Start)) (sym (stays_out (side_bonds c.args.step.now (not c.args.out)) c.args.b (bonds_of (m (goal.at.returns c).Start)) (sym c.is_bond_of-kept.ensures ∙ c.if-kept.false)))
+returns c =
+    let gone : c.is_bond_of-kept.result ≡ false = search rules in
+    c.take_bond.ensures ∙ ap (with_bonds (m (goal.at.returns c).Start)) (sym (stays_out (side_bonds c.args.step.now (not c.args.out)) c.args.b (bonds_of (m (goal.at.returns c).Start)) (sym c.is_bond_of-kept.ensures ∙ gone)))
