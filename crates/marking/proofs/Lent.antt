@@ -11,7 +11,6 @@ use Rattle.net.specs.Tests.{table}
 use Rattle.net.proofs.Tables.{length-table}
 use Rattle.marking.specs.declared.Marking.{Marking}
 use Rattle.marking.specs.Form.{padded, los, his, bonds_of, InOrder}
-use Rattle.marking.specs.Held.{holding_bonds}
 use Rattle.marking.proofs.Padding.{drop-replicate, length-padded}
 
 -- behind n elements there are zeros
@@ -62,7 +61,3 @@ module _ (m : Marking) where
 
   pub hi-less : InOrder m → 0 < m.count → (g : ℕ → ℕ) (now : List ℕ) → now ≡ table (m.count - 1) g ++ (0 ∷ drop m.count m.hi) → now ≡ padded max_bonds (table (m.count - 1) g)
   hi-less I h g now q = less-padded g m.count max_bonds (his (bonds_of m)) m.hi now h I.room length-his (ap (λ (x : Marking). x.hi) I.form) q
-
-  -- the bonds alone are in order where the marking's are
-  pub bonds-order : InOrder m → InOrder (holding_bonds m.count m.lo m.hi)
-  bonds-order I = record { room = I.room; form = ap (λ (x : Marking). holding_bonds x.count x.lo x.hi) I.form; order = I.order }
