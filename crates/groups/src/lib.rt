@@ -2,7 +2,7 @@
 // The label of a group stands for it: members[x] is the set of the bases with label x.
 #![tactic(auto)]
 
-ghost use Rattle.std.specs.Prelude.{◌≡◌, true, false, ◌&&◌, List, ℕ, ◌<◌, eqb, length, get_or};
+ghost use Rattle.std.specs.Prelude.{◌≡◌, true, false, ◌&&◌, List, ℕ, ◌<◌, eqb, get_or};
 ghost use Rattle.net.specs.Limits.{max_bases};
 ghost use Rattle.net.specs.Tests.{pick, table};
 ghost use Rattle.net.specs.Firing.{moves};
@@ -13,26 +13,23 @@ ghost use Rattle.labels.specs.Labelled.{label_in, Labelled};
 ghost use Rattle.groups.specs.Groups.{firsts, side};
 
 use format::{entry, entry_count};
+use labels::Labels;
 use net::{Base, MAX_BASES, Place};
 use words::{has_base, union, within};
 
 // The moved bases: those of every group that an entry hits. Callers have labels by the bonds of a marking, and their entries
 // are of bases of the net, here and below.
-pub fn moved_word(step: &[u8], l: &[Base; MAX_BASES], members: &[u64; MAX_BASES]) -> u64
+pub fn moved_word(step: &[u8], labels: &Labels) -> u64
     requires by_index { (i : ℕ) → i < entry_count step.now → (nth_entry step.now i).base < max_bases }
-    requires labelled { (bs : List Bond) × Labelled l.now members.now bs }
-    ensures { (bs : List Bond) → Labelled l.now members.now bs
+    requires labelled { (bs : List Bond) × Labelled labels.now.of labels.now.members bs }
+    ensures { (bs : List Bond) → Labelled labels.now.of labels.now.members bs
         → set_of max_bases result ≡ table max_bases (moves bs (arcs_in step.now).entries) }
 {
-    let n = entry_count(step);
     let mut w: u64 = 0;
-    let mut i: u8 = 0;
-    while i < n {
-        let e = entry(step, i);
-        let base = e.base as usize;
-        let x = l[base] as usize;
-        w = union(w, members[x]);
-        i += 1;
+    for i in 0..entry_count(step) {
+        let base = entry(step, i).base as usize;
+        let x = labels.of[base] as usize;
+        w = union(w, labels.members[x]);
     }
     w
 }
@@ -45,96 +42,66 @@ fn chosen(goes: bool, to: Place, old: Place) -> Place
 }
 
 // Every base with the label x goes to `to`. The pass goes over all bases up to the limit: a constant number of turns, so that
-// the compiler does many at a time. The callers' array of places has its full length.
+// the compiler does many at a time.
 fn send_group(l: &[Base; MAX_BASES], places: &mut [Place; MAX_BASES], x: Base, to: Place)
-    requires { length places.old ≡ max_bases }
     ensures { places.new
         ≡ table max_bases (λ p. pick (eqb x (label_in l.now p)) to (get_or places.old p 0)) }
 {
-    let mut p = 0;
-    while p < MAX_BASES {
+    for p in 0..MAX_BASES {
         places[p] = chosen(x == l[p], to, places[p]);
-        p += 1;
     }
 }
 
 // Every base whose group an entry hits goes to the out-place of the first such entry: from the last entry to the first.
-// The callers' places are those of a marking in its form.
 pub fn send_entries(step: &[u8], l: &[Base; MAX_BASES], places: &mut [Place; MAX_BASES])
-    requires places_len { length places.old ≡ max_bases }
-    requires by_index { (i : ℕ) → i < entry_count step.now → (nth_entry step.now i).base < max_bases }
+    requires { (i : ℕ) → i < entry_count step.now → (nth_entry step.now i).base < max_bases }
     ensures { places.new
         ≡ table max_bases (λ p. firsts (side false) (label_in l.now) (arcs_in step.now).entries
         (get_or places.old p 0) (label_in l.now p)) }
 {
-    let mut left = entry_count(step);
-    while 0 < left {
-        left -= 1;
-        let e = entry(step, left);
-        let x = l[e.base as usize];
-        send_group(l, places, x, e.to);
+    for i in (0..entry_count(step)).rev() {
+        let e = entry(step, i);
+        send_group(l, places, l[e.base as usize], e.to);
     }
 }
 
-// Every base of `moved` with the label x goes to `to`. The callers' array of places has its full length.
+// Every base of `moved` with the label x goes to `to`.
 fn send_some(l: &[Base; MAX_BASES], places: &mut [Place; MAX_BASES], moved: u64, x: Base, to: Place)
-    requires { length places.old ≡ max_bases }
     ensures { places.new
         ≡ table max_bases (λ p. pick (get_or (set_of max_bases moved) p false && eqb x (label_in l.now p)) to
         (get_or places.old p 0)) }
 {
-    let mut p = 0;
-    while p < MAX_BASES {
-        places[p] = chosen(has_base(moved, p as u8) & (x == l[p]), to, places[p]);
-        p += 1;
+    for p in 0..MAX_BASES {
+        places[p] = chosen(has_base(moved, p as Base) & (x == l[p]), to, places[p]);
     }
 }
 
 // The same. Where the whole group moved, one pass asks no bit of a base. `send_back` has the set of x's group at x.
-fn send_moved(
-    l: &[Base; MAX_BASES],
-    members: &[u64; MAX_BASES],
-    places: &mut [Place; MAX_BASES],
-    moved: u64,
-    x: Base,
-    to: Place,
-)
-    requires places_len { length places.old ≡ max_bases }
-    requires x_lt_max_bases { (x < max_bases) × (set_of max_bases (get_or members.now x 0) ≡ table max_bases (λ p. eqb x (label_in l.now p))) }
+fn send_moved(labels: &Labels, places: &mut [Place; MAX_BASES], moved: u64, x: Base, to: Place)
+    requires { (x < max_bases) × (set_of max_bases (get_or labels.now.members x 0) ≡ table max_bases (λ p. eqb x (label_in labels.now.of p))) }
     ensures { places.new
-        ≡ table max_bases (λ p. pick (get_or (set_of max_bases moved) p false && eqb x (label_in l.now p)) to
+        ≡ table max_bases (λ p. pick (get_or (set_of max_bases moved) p false && eqb x (label_in labels.now.of p)) to
         (get_or places.old p 0)) }
 {
-    let whole = within(members[x as usize], moved);
-    if whole {
-        send_group(l, places, x, to);
+    if within(labels.members[x as usize], moved) {
+        send_group(&labels.of, places, x, to);
         return;
     }
-    send_some(l, places, moved, x, to);
+    send_some(&labels.of, places, moved, x, to);
 }
 
 // Every base of `moved` whose group an entry hits goes to the in-place of the first such entry: from the last entry to the
-// first. The callers' places are those of a marking in its form.
-pub fn send_back(
-    step: &[u8],
-    l: &[Base; MAX_BASES],
-    members: &[u64; MAX_BASES],
-    places: &mut [Place; MAX_BASES],
-    moved: u64,
-)
-    requires places_len { length places.old ≡ max_bases }
+// first.
+pub fn send_back(step: &[u8], labels: &Labels, places: &mut [Place; MAX_BASES], moved: u64)
     requires by_index { (i : ℕ) → i < entry_count step.now → (nth_entry step.now i).base < max_bases }
-    requires labelled { (bs : List Bond) × Labelled l.now members.now bs }
+    requires labelled { (bs : List Bond) × Labelled labels.now.of labels.now.members bs }
     ensures { places.new
         ≡ table max_bases (λ p. pick (get_or (set_of max_bases moved) p false)
-        (firsts (side true) (label_in l.now) (arcs_in step.now).entries (get_or places.old p 0)
-        (label_in l.now p)) (get_or places.old p 0)) }
+        (firsts (side true) (label_in labels.now.of) (arcs_in step.now).entries (get_or places.old p 0)
+        (label_in labels.now.of p)) (get_or places.old p 0)) }
 {
-    let mut left = entry_count(step);
-    while 0 < left {
-        left -= 1;
-        let e = entry(step, left);
-        let x = l[e.base as usize];
-        send_moved(l, members, places, moved, x, e.from);
+    for i in (0..entry_count(step)).rev() {
+        let e = entry(step, i);
+        send_moved(labels, places, moved, labels.of[e.base as usize], e.from);
     }
 }

@@ -7,6 +7,7 @@ ghost use Rattle.net.specs.Limits.{max_bonds};
 ghost use Rattle.net.specs.Tests.{keep, table};
 ghost use Rattle.net.specs.Sorted.{Ascending, put};
 ghost use Rattle.net.specs.Net.{same_bond, less_bond, has_bond};
+ghost use Rattle.bonds.specs.Ends.{ends};
 ghost use Rattle.marking.specs.Shift.{slot, gap};
 ghost use Rattle.marking.specs.Form.{bonds_of, with_bonds, InOrder};
 
@@ -71,6 +72,17 @@ impl Marking {
         remove(&mut self.lo, self.count, k);
         remove(&mut self.hi, self.count, k);
         self.count -= 1;
+    }
+
+    // The bond at i. The callers ask below the number of bonds, which fit.
+    pub fn bond_at(&self, i: usize) -> Bond
+        requires { i < max_bonds }
+        ensures { result ≡ ends self.now.lo self.now.hi i }
+    {
+        Bond {
+            lo: self.lo[i],
+            hi: self.hi[i],
+        }
     }
 
     // Whether b is among the bonds, which the callers hold in strict order.

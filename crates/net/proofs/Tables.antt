@@ -41,6 +41,10 @@ module _ {X : Type 0} where
   table-list [] d = refl
   table-list (x ∷ xs) d = λ i. x ∷ table-list xs d i
 
+  -- a list of n elements that is f at each place
+  pub list-table : (n : ℕ) (f : ℕ → X) (l : List X) (d : X) → length l ≡ n → ((p : ℕ) → p < n → get_or l p d ≡ f p) → l ≡ table n f
+  list-table n f l d s h = sym (table-list l d) ∙ ap (λ (k : ℕ). table k (λ i. get_or l i d)) s ∙ table-cong n (λ i. get_or l i d) f h
+
   pub table-snoc : (n : ℕ) (f : ℕ → X) → table (suc n) f ≡ table n f ++ (f n ∷ [])
   table-snoc zero f = refl
   table-snoc (suc n) f = λ i. f zero ∷ table-snoc n (λ k. f (suc k)) i

@@ -1,4 +1,4 @@
--- `groups::moved_word`: what its loops keep, and by what they end.
+-- `groups::moved_word`: what its loop keeps.
 use mathlib.Core.Path.{◌≡◌}
 use Prim.Native.Nat.{◌-◌, ◌≤◌}
 use Rattle.net.specs.Limits.{max_bases}
@@ -10,8 +10,4 @@ use Rattle.groups.proofs.Moving.{moves_by}
 use Rattle.groups.proofs.moved_word.Given as goal
 
 abbrev pub invariant-loop-i : goal.invariant-loop-i
-invariant-loop-i l = (l.n ≡ entry_count l.step) × (l.i ≤ l.n) ×
-    (set_of max_bases l.w ≡ table max_bases (moves_by (label_in l.l) (table l.i (nth_entry l.step))))
-
-abbrev pub decreases-loop-i : goal.decreases-loop-i
-decreases-loop-i l = l.n - l.i
+invariant-loop-i l = set_of max_bases l.w ≡ table max_bases (moves_by (label_in l.labels.of) (table l.i (nth_entry l.step)))

@@ -4,6 +4,7 @@ use mathlib.Core.Path.{◌≡◌, refl, sym, ◌∙◌, ap, subst}
 use mathlib.Core.Bool.{true}
 use Prim.Native.Nat.{◌-◌, ◌<◌}
 use native.Mathlib.Omega.{arith}
+use borrow.Author.Rules.{rules}
 use Rattle.net.specs.Limits.{max_bases}
 use Rattle.net.specs.declared.Entry.{Entry}
 use Rattle.format.specs.Arcs.{entry_count, nth_entry}
@@ -17,38 +18,30 @@ use Rattle.groups.proofs.send_back.Goals.{After-entry-e}
 -- the entry's base is below the limit
 near : (c : After-entry-e) → c.entry-e.result.base < max_bases
 near c =
-    subst (λ (x : Entry). x.base < max_bases) (sym c.entry-e.ensures) (c.requires.by_index (c.loop-left.left - 1) (omega arith))
+    subst (λ (x : Entry). x.base < max_bases) (sym c.entry-e.ensures) (c.requires.by_index (c.loop-i.i - 1) (omega arith))
 
-pub loop-left-init : goal.loop-left-init
-loop-left-init c =
-    let e = c.entry_count-left.ensures in (
-      omega arith,
-      sent-none max_bases (entry_count c.args.step.now) (may c.args.moved) (side true) (label_in c.args.l.now) (nth_entry c.args.step.now)
-          c.args.places.now c.entry_count-left.result e c.requires.places_len,
-    )
+pub loop-i-init : goal.loop-i-init
+loop-i-init c =
+    sent-none max_bases (entry_count c.args.step.now) (may c.args.moved) (side true) (label_in c.args.labels.now.of) (nth_entry c.args.step.now) c.args.places.now
+    c.entry_count-i.result c.entry_count-i.ensures (search rules)
 
-pub bounds-l-e : goal.bounds-l-e
-bounds-l-e c = let h = near (goal.at.bounds-l-e c).After-entry-e in omega arith
+pub bounds-labels-e : goal.bounds-labels-e
+bounds-labels-e c = let h = near (goal.at.bounds-labels-e c).After-entry-e in omega arith
 
 pub send_moved-requires : goal.send_moved-requires
 send_moved-requires c =
-    let (bs, L) = c.requires.labelled in record {
-      places_len = sent-length max_bases (entry_count c.args.step.now) (may c.args.moved) (side true) (label_in c.args.l.now) (nth_entry c.args.step.now)
-          c.args.places.now c.loop-left.left c.loop-left.places c.loop-left.invariant.1;
-      x_lt_max_bases = (L.parted.low c.entry-e.result.base (near (goal.at.send_moved-requires c).After-entry-e), L.holds c.entry-e.result.base (near (goal.at.send_moved-requires c).After-entry-e));
-    }
+    let (bs, L) = c.requires.labelled in
+    let h = near (goal.at.send_moved-requires c).After-entry-e in
+    (L.parted.low c.entry-e.result.base h, L.holds c.entry-e.result.base h)
 
-pub loop-left-preserved : goal.loop-left-preserved
-loop-left-preserved c = (
-  omega arith,
-  sent-turn max_bases (entry_count c.args.step.now) (may c.args.moved) (side true) (label_in c.args.l.now) (nth_entry c.args.step.now)
-      c.args.places.now c.loop-left.left c.entry-e.result _ c.entry-e.result.from c.loop-left.places _ (omega arith) (omega arith)
-      c.entry-e.ensures refl refl c.loop-left.invariant.1 c.send_moved.ensures,
-)
+pub loop-i-preserved : goal.loop-i-preserved
+loop-i-preserved c =
+    sent-turn max_bases (entry_count c.args.step.now) (may c.args.moved) (side true) (label_in c.args.labels.now.of) (nth_entry c.args.step.now) c.args.places.now
+    c.loop-i.i c.entry-e.result _ c.entry-e.result.from c.loop-i.places _ (omega arith) (omega arith)
+    c.entry-e.ensures refl refl c.loop-i.invariant c.send_moved.ensures
 
 pub returns : goal.returns
 returns c =
-    let e : c.loop-left.left ≡ 0 = omega arith in
-    c.loop-left.invariant.1
-    ∙ ap (sentFrom max_bases (entry_count c.args.step.now) (may c.args.moved) (side true) (label_in c.args.l.now) (nth_entry c.args.step.now)
-    c.args.places.now) e
+    let e : c.loop-i.i ≡ 0 = omega arith in
+    c.loop-i.invariant
+    ∙ ap (sentFrom max_bases (entry_count c.args.step.now) (may c.args.moved) (side true) (label_in c.args.labels.now.of) (nth_entry c.args.step.now) c.args.places.now) e

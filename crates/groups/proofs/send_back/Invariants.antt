@@ -1,4 +1,4 @@
--- `groups::send_back`: what its loops keep, and by what they end.
+-- `groups::send_back`: what its loop keeps.
 -- the base is in the set
 use mathlib.Core.Path.{◌≡◌}
 use mathlib.Core.Bool.{Bool, true, false}
@@ -15,9 +15,6 @@ use Rattle.groups.proofs.send_back.Given as goal
 abbrev pub may : ℕ → ℕ → Bool
 may moved p = get_or (set_of max_bases moved) p false
 
-abbrev pub invariant-loop-left : goal.invariant-loop-left
-invariant-loop-left l =
-    (l.left ≤ entry_count l.step) × (l.places ≡ sentFrom max_bases (entry_count l.step) (may l.moved) (side true) (label_in l.l) (nth_entry l.step) l.initial.places l.left)
-
-abbrev pub decreases-loop-left : goal.decreases-loop-left
-decreases-loop-left l = l.left
+abbrev pub invariant-loop-i : goal.invariant-loop-i
+invariant-loop-i l =
+    l.places ≡ sentFrom max_bases (entry_count l.step) (may l.moved) (side true) (label_in l.labels.of) (nth_entry l.step) l.initial.places l.i

@@ -1,4 +1,4 @@
--- `groups::send_entries`: what its loops keep, and by what they end.
+-- `groups::send_entries`: what its loop keeps.
 use mathlib.Core.Path.{◌≡◌}
 use mathlib.Core.Bool.{true, false}
 use Prim.Native.Nat.{◌≤◌}
@@ -9,9 +9,6 @@ use Rattle.groups.specs.Groups.{side}
 use Rattle.groups.proofs.Sending.{sentFrom}
 use Rattle.groups.proofs.send_entries.Given as goal
 
-abbrev pub invariant-loop-left : goal.invariant-loop-left
-invariant-loop-left l =
-    (l.left ≤ entry_count l.step) × (l.places ≡ sentFrom max_bases (entry_count l.step) (λ p. true) (side false) (label_in l.l) (nth_entry l.step) l.initial.places l.left)
-
-abbrev pub decreases-loop-left : goal.decreases-loop-left
-decreases-loop-left l = l.left
+abbrev pub invariant-loop-i : goal.invariant-loop-i
+invariant-loop-i l =
+    l.places ≡ sentFrom max_bases (entry_count l.step) (λ p. true) (side false) (label_in l.l) (nth_entry l.step) l.initial.places l.i

@@ -14,19 +14,19 @@ use Rattle.labels.specs.Labelled.{label_in}
 use Rattle.groups.proofs.send_group.Goals as goal
 
 pub loop-p-init : goal.loop-p-init
-loop-p-init c = (search rules, c.requires, refl)
+loop-p-init c = refl
 
 pub loop-p-preserved : goal.loop-p-preserved
 loop-p-preserved c =
     let l : List ℕ = c.args.places.now in
     let g : ℕ → ℕ = λ q. pick (eqb c.args.x (label_in c.args.l.now q)) c.args.to (get_or l q 0) in
     let p = c.loop-p.p in
-    let old = read-ahead g p p l c.loop-p.places 0 (omega arith) c.loop-p.invariant.2 in
+    let old = read-ahead g p p l c.loop-p.places 0 (omega arith) c.loop-p.invariant in
     let v = c.chosen.ensures ∙ ap (λ (o : ℕ). pick (eqb c.args.x (label_in c.args.l.now p)) c.args.to o) old in
-    (search rules, search rules, fill-turn g p l c.loop-p.places 0 c.chosen.result (omega arith) v c.loop-p.invariant.2)
+    fill-turn g p l c.loop-p.places 0 c.chosen.result (omega arith) v c.loop-p.invariant
 
 pub returns : goal.returns
 returns c =
     let l : List ℕ = c.args.places.now in
     fill_end (λ q. pick (eqb c.args.x (label_in c.args.l.now q)) c.args.to (get_or l q 0)) c.loop-p.p max_bases l
-    c.loop-p.places c.loop-p.invariant.1 (omega arith) c.loop-p.invariant.2
+    c.loop-p.places (search rules) (omega arith) c.loop-p.invariant

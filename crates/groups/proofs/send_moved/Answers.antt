@@ -7,8 +7,8 @@ use Rattle.labels.specs.Labelled.{label_in}
 use Rattle.groups.proofs.Sending.{whole-goes}
 use Rattle.groups.proofs.send_moved.Goals as goal
 
-pub returns-then-whole : goal.returns-then-whole
-returns-then-whole c =
+pub returns-then-within : goal.returns-then-within
+returns-then-within c =
     c.send_group.ensures
-    ∙ whole-goes max_bases c.args.x (label_in c.args.l.now) _ (set_of max_bases c.args.moved) c.requires.x_lt_max_bases.1 (sym c.within-whole.ensures ∙ c.if-whole.true)
+    ∙ whole-goes max_bases c.args.x (label_in c.args.labels.now.of) _ (set_of max_bases c.args.moved) c.requires.1 (sym c.within.ensures ∙ c.if-within.true)
     c.args.to (λ p. get_or c.args.places.now p 0)

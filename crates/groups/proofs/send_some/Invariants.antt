@@ -1,4 +1,4 @@
--- `groups::send_some`: what its loops keep, and by what they end.
+-- `groups::send_some`: what its loop keeps.
 use mathlib.Core.Path.{◌≡◌}
 use mathlib.Core.Bool.{false, ◌&&◌}
 use mathlib.Core.List.{◌++◌}
@@ -13,8 +13,4 @@ use Rattle.groups.proofs.send_some.Given as goal
 
 abbrev pub invariant-loop-p : goal.invariant-loop-p
 invariant-loop-p l =
-    (l.p ≤ max_bases) × (length l.initial.places ≡ max_bases)
-    × (l.places ≡ table l.p (λ q. pick (get_or (set_of max_bases l.moved) q false && eqb l.x (label_in l.l q)) l.to (get_or l.initial.places q 0)) ++ drop l.p l.initial.places)
-
-abbrev pub decreases-loop-p : goal.decreases-loop-p
-decreases-loop-p l = max_bases - l.p
+    l.places ≡ table l.p (λ q. pick (get_or (set_of max_bases l.moved) q false && eqb l.x (label_in l.l q)) l.to (get_or l.initial.places q 0)) ++ drop l.p l.initial.places

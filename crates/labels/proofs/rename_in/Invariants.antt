@@ -1,15 +1,8 @@
--- `labels::rename_in`: what its loops keep, and by what they end.
-use mathlib.Core.Path.{◌≡◌}
-use mathlib.Core.List.{◌++◌}
-use Prim.Native.Nat.{◌-◌, ◌≤◌}
-use lib.ListN.{length, get_or, drop}
-use Rattle.net.specs.Limits.{max_bases}
+-- `labels::rename_in`: what its loop keeps.
+use Rattle.std.proofs.Common.{◌≡◌, ◌++◌, get_or, drop}
 use Rattle.net.specs.Tests.{table}
 use Rattle.labels.specs.Labelled.{renamed}
 use Rattle.labels.proofs.rename_in.Given as goal
 
-abbrev pub invariant-loop-p : goal.invariant-loop-p
-invariant-loop-p l = (l.p ≤ max_bases) × (length l.initial.l ≡ max_bases) × (l.l ≡ table l.p (λ q. renamed l.from l.to (get_or l.initial.l q 0)) ++ drop l.p l.initial.l)
-
-abbrev pub decreases-loop-p : goal.decreases-loop-p
-decreases-loop-p l = max_bases - l.p
+abbrev pub invariant-loop-x : goal.invariant-loop-x
+invariant-loop-x l = l.l ≡ table l.x-index (λ q. renamed l.from l.to (get_or l.initial.l q 0)) ++ drop l.x-index l.initial.l

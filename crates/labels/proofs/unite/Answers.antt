@@ -10,7 +10,7 @@ use Rattle.labels.proofs.unite.Goals as goal
 
 pub returns-then-p-q : goal.returns-then-p-q
 returns-then-p-q c =
-    let (hl, hh) = c.requires.1 in record {
+    let (hl, hh) = c.requires.0 in record {
       by_index = λ n k w. omega arith;
       spans = λ bs S. let F = S.forest in
           spans-stay max_bases c.args.l.now c.args.b (hl, hh) bs S (sym (F.up c.args.b.lo hl) ∙ ap S.root c.if-p-q.true ∙ F.up c.args.b.hi hh);
@@ -23,8 +23,7 @@ returns-then-x-y c =
     let y : ℕ = c.root-y.result in
     let (ux, tx, rx) = c.root-x.ensures in
     let (uy, ty, ry) = c.root-y.ensures in
-    let size = c.requires.0 in
-    let (hl, hh) = c.requires.1 in
+    let (hl, hh) = c.requires.0 in
     let lt : x < y = omega arith in record {
       by_index = λ n k w. let a = w.1 in roots_less n l x y (omega arith) lt (omega arith) ty;
       spans = spans-up max_bases l c.args.b (hl, hh) x y (omega arith) tx ty rx ry (omega arith) (omega arith);
@@ -37,8 +36,7 @@ returns-then-y-x c =
     let y : ℕ = c.root-y.result in
     let (ux, tx, rx) = c.root-x.ensures in
     let (uy, ty, ry) = c.root-y.ensures in
-    let size = c.requires.0 in
-    let (hl, hh) = c.requires.1 in
+    let (hl, hh) = c.requires.0 in
     let lt : y < x = omega arith in record {
       by_index = λ n k w. let a = w.0 in roots_less n l y x (omega arith) lt (omega arith) tx;
       spans = spans-down max_bases l c.args.b (hl, hh) x y (omega arith) tx ty rx ry (omega arith) (omega arith);
@@ -51,8 +49,7 @@ returns c =
     let y : ℕ = c.root-y.result in
     let (ux, tx, rx) = c.root-x.ensures in
     let (uy, ty, ry) = c.root-y.ensures in
-    let size = c.requires.0 in
-    let (hl, hh) = c.requires.1 in
+    let (hl, hh) = c.requires.0 in
     let e : x ≡ y = omega arith in record {
       by_index = λ n k w. omega arith;
       spans = λ bs S. spans-stay max_bases l c.args.b (hl, hh) bs S (sym (rx S.root S.forest) ∙ ap S.root e ∙ ry S.root S.forest);

@@ -1,5 +1,0 @@
--- `labels::relabel`: the answers to the goals that the check leaves.
-use Rattle.labels.proofs.relabel.Goals as goal
-
-pub returns : goal.returns
-returns c = c.flatten.ensures _ c.unite_all.ensures
