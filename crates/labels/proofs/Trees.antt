@@ -171,6 +171,17 @@ module _ (N : ℕ) where
         says = λ p q j k. refl;
       }
 
+  -- such parents are labels where there is no bond
+  pub parted-own : (l : List ℕ) → l ≡ table N (λ p. p) → Parted N l []
+  unfolding spans-own
+  parted-own l e =
+      let at : (p : ℕ) → p < N → get_or l p 0 ≡ p = λ p k. ap (λ (z : List ℕ). get_or z p 0) e ∙ get_d-table N (λ p. p) p 0 k in
+      record {
+        size = ap length e ∙ length-table N (λ p. p);
+        low = λ p k. let a = at p k in omega arith;
+        says = λ p q j k. (λ i. eqb (at p j i) (at q k i)) ∙ (spans-own l e).says p q j k;
+      }
+
   -- a bond of two bases with one root changes nothing
   pub spans-stay : (l : List ℕ) (b : Bond) → Within N b → (bs : List Bond) (S : Spans N l bs) → S.root b.lo ≡ S.root b.hi → Spans N l (put same_bond less_bond b bs)
   spans-stay l b w bs S e =

@@ -2,7 +2,7 @@
 // Bonds that are put in join labels; where bonds go, the labels are made anew over parents.
 #![tactic(auto)]
 
-ghost use Rattle.std.specs.Prelude.{◌≡◌, List, eqb, ℕ, ◌+◌, ◌<◌, ◌≤◌, length, get_or};
+ghost use Rattle.std.specs.Prelude.{◌≡◌, List, [], eqb, ℕ, ◌+◌, ◌<◌, ◌≤◌, length, get_or};
 ghost use Rattle.net.specs.Limits.{max_bases, max_bonds};
 ghost use Rattle.net.specs.Tests.{table};
 ghost use Rattle.net.specs.Net.{same_bond, less_bond};
@@ -35,6 +35,15 @@ impl Labels {
         ensures { Labelled result.of result.members (bonds_of m.now) }
     {
         let of = label_all(m);
+        let members = members_of(&of);
+        Labels { of, members }
+    }
+
+    // The labels of no bonds: each base has its own.
+    pub fn unbound() -> Labels
+        ensures { Labelled result.of result.members [] }
+    {
+        let of = own_parents();
         let members = members_of(&of);
         Labels { of, members }
     }

@@ -7,21 +7,16 @@ use Rattle.net.specs.Net.{has_bond}
 use Rattle.net.specs.declared.Bond.{Bond}
 use Rattle.net.proofs.Tables.{any-more}
 use Rattle.format.specs.Arcs.{out_count, nth_out_bond, arcs_in}
-use Rattle.bonds.specs.Ends.{bonds_in}
+use Rattle.marking.specs.Form.{bonds_of}
 use Rattle.enabling.proofs.bond_present.Goals as goal
 
 pub loop-i-init : goal.loop-i-init
-loop-i-init c = (c.out_count-made.ensures, search rules, refl)
+loop-i-init c = refl
 
 pub loop-i-preserved : goal.loop-i-preserved
-loop-i-preserved c = (
-  search rules,
-  search rules,
-  rw (c.loop-i.invariant.2, c.has_bond-here.ensures, c.is_bond_of-kept.ensures, c.out_bond-b.ensures)
-      (sym (any-more
-      (λ (d : Bond). not (has_bond d (arcs_in c.args.step.now).in_bonds) && has_bond d (bonds_in c.args.lo.now c.args.hi.now c.args.count))
-      c.loop-i.i (nth_out_bond c.args.step.now))),
-)
+loop-i-preserved c =
+    rw (c.loop-i.invariant, c.has_bond-here.ensures, c.is_bond_of-kept.ensures, c.out_bond-b.ensures)
+    (sym (any-more (λ (d : Bond). not (has_bond d (arcs_in c.args.step.now).in_bonds) && has_bond d (bonds_of c.args.m.now)) c.loop-i.i (nth_out_bond c.args.step.now)))
 
 pub returns : goal.returns
-returns c = λ n places. let e : c.loop-i.i ≡ out_count c.args.step.now = omega arith in c.loop-i.invariant.2 ∙ rw e
+returns c = λ n. let e : c.loop-i.i ≡ out_count c.args.step.now = omega arith in c.loop-i.invariant ∙ rw e

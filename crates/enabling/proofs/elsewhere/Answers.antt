@@ -12,19 +12,15 @@ use Rattle.enabling.proofs.elsewhere.Invariants.{away}
 use Rattle.enabling.proofs.elsewhere.Goals as goal
 
 pub loop-i-init : goal.loop-i-init
-loop-i-init c = (c.entry_count-count.ensures, search rules, refl)
+loop-i-init c = refl
 
-pub bounds-places-base : goal.bounds-places-base
-bounds-places-base c =
+pub bounds-places-e : goal.bounds-places-e
+bounds-places-e c =
     let h = subst (λ (x : Entry). x.base < max_bases) (sym c.entry-e.ensures) (c.requires c.loop-i.i (omega arith)) in
     omega arith
 
 pub loop-i-preserved : goal.loop-i-preserved
-loop-i-preserved c = (
-  search rules,
-  search rules,
-  rw (c.loop-i.invariant.2, c.entry-e.ensures) (sym (any-more (away c.args.places.now) c.loop-i.i (nth_entry c.args.step.now))),
-)
+loop-i-preserved c = rw (c.loop-i.invariant, c.entry-e.ensures) (sym (any-more (away c.args.places.now) c.loop-i.i (nth_entry c.args.step.now)))
 
 pub returns : goal.returns
-returns c = let e : c.loop-i.i ≡ entry_count c.args.step.now = omega arith in c.loop-i.invariant.2 ∙ rw e
+returns c = let e : c.loop-i.i ≡ entry_count c.args.step.now = omega arith in c.loop-i.invariant ∙ rw e

@@ -1,4 +1,4 @@
--- `enabling::elsewhere`: what its loops keep, and by what they end.
+-- `enabling::elsewhere`: what its loop keeps.
 -- the entry's base is not at its out-place
 use mathlib.Core.Path.{◌≡◌}
 use mathlib.Core.Bool.{Bool, not}
@@ -15,7 +15,4 @@ abbrev pub away : List ℕ → Entry → Bool
 away ps e = not (eqb e.to (get_or ps e.base 0))
 
 abbrev pub invariant-loop-i : goal.invariant-loop-i
-invariant-loop-i l = (l.count ≡ entry_count l.step) × (l.i ≤ l.count) × (l.found ≡ any (away l.places) (table l.i (nth_entry l.step)))
-
-abbrev pub decreases-loop-i : goal.decreases-loop-i
-decreases-loop-i l = l.count - l.i
+invariant-loop-i l = l.found ≡ any (away l.places) (table l.i (nth_entry l.step))

@@ -10,7 +10,7 @@ use Rattle.format.proofs.Loops.{any-on, any_left, any-end, has-any}
 use Rattle.enabling.proofs.is_bond_of.Goals as goal
 
 pub loop-i-init : goal.loop-i-init
-loop-i-init c = (c.bond_count-count.ensures, search rules, refl)
+loop-i-init c = refl
 
 pub returns-then-b-c : goal.returns-then-b-c
 returns-then-b-c c =
@@ -21,14 +21,11 @@ returns-then-b-c c =
 
 pub loop-i-preserved : goal.loop-i-preserved
 loop-i-preserved c =
-    let given = c.args in (
-      search rules,
-      search rules,
-      any-on (same_bond given.b) (nth_bond given.step.now given.out) c.loop-i.i c.loop-i.invariant.2 _ c.nth_bond-c.ensures c.if-b-c.false,
-    )
+    let given = c.args in
+    any-on (same_bond given.b) (nth_bond given.step.now given.out) c.loop-i.i c.loop-i.invariant _ c.nth_bond-c.ensures c.if-b-c.false
 
 pub returns : goal.returns
 returns c =
     let given = c.args in
     let step : List ℕ = given.step.now in
-    any-end (same_bond given.b) (nth_bond step given.out) (bond_count step given.out) c.loop-i.i (omega arith) c.loop-i.invariant.2 ∙ sym (has-any same_bond given.b (side_bonds step given.out))
+    any-end (same_bond given.b) (nth_bond step given.out) (bond_count step given.out) c.loop-i.i (omega arith) c.loop-i.invariant ∙ sym (has-any same_bond given.b (side_bonds step given.out))

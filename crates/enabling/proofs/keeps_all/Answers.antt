@@ -17,22 +17,19 @@ returns-then-in_line c =
     sym (line-all t.in_bonds t.out_bonds (sym c.in_line.ensures ∙ c.if-in_line.true))
 
 pub loop-i-init : goal.loop-i-init
-loop-i-init c = (c.in_count-count.ensures, search rules, refl)
+loop-i-init c = refl
 
 pub returns-then-not-is_bond_of : goal.returns-then-not-is_bond_of
 returns-then-not-is_bond_of c =
     let step : List ℕ = c.args.step.now in
-    all_left (λ (b : Bond). has_bond b (arcs_in step).out_bonds) (nth_in_bond step) (in_count step) c.loop-i.i (omega arith) _ c.in_bond-b.ensures (sym c.is_bond_of.ensures ∙ c.if-not-is_bond_of.true)
+    all_left (λ (b : Bond). has_bond b (arcs_in step).out_bonds) (nth_in_bond step) (in_count step) c.loop-i.i (omega arith) _ c.in_bond.ensures (sym c.is_bond_of.ensures ∙ c.if-not-is_bond_of.true)
 
 pub loop-i-preserved : goal.loop-i-preserved
 loop-i-preserved c =
-    let step : List ℕ = c.args.step.now in (
-      search rules,
-      search rules,
-      all-on (λ (b : Bond). has_bond b (arcs_in step).out_bonds) (nth_in_bond step) c.loop-i.i c.loop-i.invariant.2 _ c.in_bond-b.ensures (sym c.is_bond_of.ensures ∙ c.if-not-is_bond_of.false),
-    )
+    let step : List ℕ = c.args.step.now in
+    all-on (λ (b : Bond). has_bond b (arcs_in step).out_bonds) (nth_in_bond step) c.loop-i.i c.loop-i.invariant _ c.in_bond.ensures (sym c.is_bond_of.ensures ∙ c.if-not-is_bond_of.false)
 
 pub returns : goal.returns
 returns c =
     let step : List ℕ = c.args.step.now in
-    all_end (λ (b : Bond). has_bond b (arcs_in step).out_bonds) (nth_in_bond step) (in_count step) c.loop-i.i (omega arith) c.loop-i.invariant.2
+    all_end (λ (b : Bond). has_bond b (arcs_in step).out_bonds) (nth_in_bond step) (in_count step) c.loop-i.i (omega arith) c.loop-i.invariant

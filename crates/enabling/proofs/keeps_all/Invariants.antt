@@ -1,4 +1,4 @@
--- `enabling::keeps_all`: what its loops keep, and by what they end.
+-- `enabling::keeps_all`: what its loop keeps.
 use mathlib.Core.Path.{◌≡◌}
 use mathlib.Core.Bool.{true}
 use Prim.Native.Nat.{◌-◌, ◌≤◌}
@@ -10,7 +10,4 @@ use Rattle.enabling.proofs.keeps_all.Given as goal
 
 abbrev pub invariant-loop-i : goal.invariant-loop-i
 invariant-loop-i l =
-    (l.count ≡ in_count l.step) × (l.i ≤ l.count) × (all (λ (b : Bond). has_bond b (arcs_in l.step).out_bonds) (table l.i (nth_in_bond l.step)) ≡ true)
-
-abbrev pub decreases-loop-i : goal.decreases-loop-i
-decreases-loop-i l = l.count - l.i
+    all (λ (b : Bond). has_bond b (arcs_in l.step).out_bonds) (table l.i (nth_in_bond l.step)) ≡ true

@@ -12,5 +12,5 @@ pub returns : goal.returns
 returns c =
     let b = c.args.step.now in
     λ k P. c.elsewhere.ensures
-    ∙ torn-sent max_bases c.args.l.now (arcs_in b) k P (table-each (λ (x : Entry). x.base < max_bases) (entry_count b) (nth_entry b) c.requires.by_index)
+    ∙ torn-sent max_bases c.args.l.now (arcs_in b) k P (table-each (λ (x : Entry). x.base < max_bases) (entry_count b) (nth_entry b) c.requires)
     c.args.places.now _ c.send_entries.ensures
