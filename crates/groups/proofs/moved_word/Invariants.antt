@@ -1,9 +1,8 @@
 -- `groups::moved_word`: what its loop keeps.
 use mathlib.Core.Path.{◌≡◌}
-use Prim.Native.Nat.{◌-◌, ◌≤◌}
 use Rattle.net.specs.Limits.{max_bases}
 use Rattle.net.specs.Tests.{table}
-use Rattle.format.specs.Arcs.{entry_count, nth_entry}
+use Rattle.format.specs.Arcs.{nth_entry}
 use Rattle.words.specs.Sets.{set_of}
 use Rattle.labels.specs.Labelled.{label_in}
 use Rattle.groups.proofs.Moving.{moves_by}

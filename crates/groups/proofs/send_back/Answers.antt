@@ -10,7 +10,7 @@ use Rattle.net.specs.declared.Entry.{Entry}
 use Rattle.format.specs.Arcs.{entry_count, nth_entry}
 use Rattle.labels.specs.Labelled.{label_in}
 use Rattle.groups.specs.Groups.{side}
-use Rattle.groups.proofs.Sending.{sentFrom, sent-none, sent-turn, sent-length}
+use Rattle.groups.proofs.Sending.{sentFrom, sent-none, sent-turn}
 use Rattle.groups.proofs.send_back.Invariants.{may}
 use Rattle.groups.proofs.send_back.Goals as goal
 use Rattle.groups.proofs.send_back.Goals.{After-entry-e}

@@ -2,7 +2,7 @@
 -- the base is in the set
 use mathlib.Core.Path.{◌≡◌}
 use mathlib.Core.Bool.{Bool, true, false}
-use Prim.Native.Nat.{ℕ, ◌≤◌}
+use Prim.Native.Nat.{ℕ}
 use lib.ListN.{get_or}
 use Rattle.net.specs.Limits.{max_bases}
 use Rattle.format.specs.Arcs.{entry_count, nth_entry}

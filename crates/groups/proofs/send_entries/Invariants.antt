@@ -1,7 +1,6 @@
 -- `groups::send_entries`: what its loop keeps.
 use mathlib.Core.Path.{◌≡◌}
 use mathlib.Core.Bool.{true, false}
-use Prim.Native.Nat.{◌≤◌}
 use Rattle.net.specs.Limits.{max_bases}
 use Rattle.format.specs.Arcs.{entry_count, nth_entry}
 use Rattle.labels.specs.Labelled.{label_in}

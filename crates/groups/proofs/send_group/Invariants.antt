@@ -1,10 +1,8 @@
 -- `groups::send_group`: what its loop keeps.
 use mathlib.Core.Path.{◌≡◌}
 use mathlib.Core.List.{◌++◌}
-use Prim.Native.Nat.{◌-◌, ◌≤◌}
-use lib.ListN.{length, get_or, drop}
+use lib.ListN.{get_or, drop}
 use lib.Dec.{eqb}
-use Rattle.net.specs.Limits.{max_bases}
 use Rattle.net.specs.Tests.{pick, table}
 use Rattle.labels.specs.Labelled.{label_in}
 use Rattle.groups.proofs.send_group.Given as goal
