@@ -1,7 +1,7 @@
 -- The first of 12 to 16, from what the engine says of the transition's bytes: one law for each answer.
 -- Assumes nothing.
 use mathlib.Core.Path.{◌≡◌, sym, ◌∙◌, ap}
-use mathlib.Core.Bool.{true, false, not}
+use mathlib.Core.Bool.{Bool, true, false, not}
 use mathlib.Core.List.{List}
 use Prim.Native.Nat.{ℕ, ◌<◌, ◌≤◌}
 use borrow.Author.Tests.{le-leb, lt-leb}
@@ -15,11 +15,12 @@ use Rattle.net.specs.declared.Bond.{Bond}
 use Rattle.net.specs.declared.Transition.{Transition}
 use Rattle.net.proofs.Uncoupling.{torn-rest}
 use Rattle.format.specs.Parts.{bases_of, transitions_of, transition_bytes}
-use Rattle.format.specs.Arcs.{arcs_in}
+use Rattle.format.specs.Arcs.{entry_count, nth_entry, arcs_in}
 use Rattle.format.specs.NetOf.{net_of}
 use Rattle.marking.specs.Form.{bonds_of, marking_of}
 use Rattle.marking.specs.declared.Marking.{Marking}
 use Rattle.enabling.specs.Ready.{Ready}
+use Rattle.enabling.proofs.Readiness.{entries-near}
 use Rattle.steps.specs.Placed.{Placed}
 use Rattle.steps.proofs.Arcs.{arcs-of, count-of}
 use Rattle.steps.proofs.Readiness.{fit, ready}
@@ -35,6 +36,11 @@ module _ (s : List ℕ) (m : Marking) (t : Transition) (n : ℕ) (b : List ℕ) 
   -- a condition on what was read is the condition on the net
   pub on-net : {X : Type 0} (f : Arcs → Net.Marking → X) → f (arcs_in b) (marking_of n m) ≡ f (arcs_of (net_of s) t) (marking_of (bases_of s) m)
   on-net f = λ i. f (arcs-at i) (marking_of (en i) m)
+
+  -- 13, as the code asks it, is 13
+  pub misplaced-at : Placed s m → t.0 < transitions_of s → (x : Bool)
+      → ((k : ℕ) → ((i : ℕ) → i < entry_count b → (nth_entry b i).base < k) → x ≡ misplaced (arcs_in b) (marking_of k m)) → x ≡ misplaced (arcs_of (net_of s) t) (marking_of (bases_of s) m)
+  misplaced-at P h x f = f n (entries-near n b m (ready_at P h)) ∙ on-net misplaced
 
   -- 16, as the code asks it, is 16
   pub torn-at : Placed s m → t.0 < transitions_of s → torn_with (arcs_in b) (keep (λ (c : Bond). not (broken_bond (arcs_in b) c)) (bonds_of m)) ≡ torn_apart (arcs_in b) (marking_of n m)
