@@ -7,3 +7,4 @@ pub mod Laid
 pub mod Lines
 pub mod Built
 pub mod Closed
+pub mod Made
