@@ -6,3 +6,5 @@ pub mod Changes
 pub mod Laid
 pub mod Lines
 pub mod Built
+pub mod Closed
+pub mod Made

@@ -1,6 +1,6 @@
 -- The live firings of a record (01, commands, record, tally) and the lines of a journal, each as the other has it.
 -- Definitions only. n is the number of bases.
-use Rattle.std.specs.Prelude.{List, ◌∷◌, ◌++◌, map, ℕ, ◌-◌, length, get_or, drop}
+use Rattle.std.specs.Prelude.{List, ◌∷◌, ◌++◌, map, ℕ, ◌+◌, ◌-◌, length, get_or, set, drop}
 use Rattle.net.specs.Limits.{max_live}
 use Rattle.net.specs.Tests.{table}
 use Rattle.net.specs.Journal.{LiveLine, transition, key, line_keys}
@@ -53,4 +53,13 @@ closed_up i f = record {
   transitions = closed f.live i f.transitions;
   keys = closed f.live i f.keys;
   moved = closed f.live i f.moved;
+}
+
+-- the live firings with one more after them
+abbrev pub pushed : Firing → Firings → Firings
+pushed x f = record {
+  live = f.live + 1;
+  transitions = set f.transitions f.live x.transition;
+  keys = set f.keys f.live x.key.0;
+  moved = set f.moved f.live x.moved;
 }

@@ -5,13 +5,14 @@ use mathlib.Core.Bool.{Bool, true, false, not, ◌&&◌, ◌||◌}
 use mathlib.Core.List.{List, [], ◌∷◌}
 use Prim.Native.Nat.{ℕ, zero, suc, ◌-◌, ◌<◌}
 use native.Mathlib.Omega.{arith}
+use Rattle.std.specs.Cmp.Lexicographic.{pointwise}
 use lib.Dec.{eqb, ltb}
 use lib.ListN.{length, get_or, set}
 use lib.Seq.{get_or-set_same, get_or-set_other}
 use borrow.Author.Tests.{eqb-true, eqb-false, eq-eqb, ne_eqb, lt-ltb}
 use Rattle.causal.proofs.Tests.{both}
 use Rattle.net.specs.Limits.{max_bases}
-use Rattle.net.specs.Tests.{pick, all, table}
+use Rattle.net.specs.Tests.{pick, all, table, same_list}
 use Rattle.net.specs.Firing.{in_set}
 use Rattle.net.specs.Journal.{LiveLine, common}
 use Rattle.net.proofs.Tests.{fails, all-i, all-at}
@@ -164,3 +165,12 @@ back_none N ls left t z e = sym (mark-none N 0 t e) ∙ table-cong N _ _ (λ p h
 -- given back to all bases, whatever the table was: the whole table of the lines
 pub movers-all : (ls : List LiveLine) (t : List ℕ) → given_back max_bases ls (set_of max_bases 18446744073709551615) t ≡ last_movers max_bases ls
 movers-all ls t = table-cong max_bases _ _ (λ p h. ap (λ (b : Bool). pick b (last_mover p ls) (get_or t p 0)) (all_in p h))
+
+-- ---- two tables
+
+-- the library's test of two lists is the one of the definitions
+pub pointwise-same : (a b : List ℕ) → pointwise eqb a b ≡ same_list eqb a b
+pointwise-same [] [] = refl
+pointwise-same [] (y ∷ b) = refl
+pointwise-same (x ∷ a) [] = refl
+pointwise-same (x ∷ a) (y ∷ b) = ap (λ (c : Bool). eqb x y && c) (pointwise-same a b)

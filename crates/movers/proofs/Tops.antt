@@ -1,7 +1,7 @@
 -- The search for the top above the last line that moved a base, by any relation: line by line, as loops over a place go.
 -- Assumes nothing.
-use mathlib.Core.Path.{◌≡◌, refl, sym, ◌∙◌, ap}
-use mathlib.Core.Logic.{◌⊎◌, inl, inr}
+use mathlib.Core.Path.{◌≡◌, sym, ◌∙◌, ap}
+use Rattle.std.specs.Prelude.{Option, None, Some, MatchOption}
 use mathlib.Core.Bool.{Bool, true, false, ◌||◌, or-false}
 use mathlib.Core.List.{List, [], ◌∷◌, ◌++◌}
 use Prim.Native.Nat.{ℕ, suc, ◌+◌, ◌<◌, ◌≤◌}
@@ -28,49 +28,47 @@ module _ (p : ℕ) where
   moved-snoc xs x = any_append (λ (l : LiveLine). in_set l.moved p) xs (x ∷ []) ∙ ap (λ (b : Bool). moved_in p xs || b) (or-false (in_set x.moved p))
 
   -- the lines are the first of f 0, f 1, ..
-  module _ (none : ℕ) (f : ℕ → LiveLine) where
-    -- of the first n none moved p, or the one at c was the last that did
-    abbrev pub Last : ℕ → ℕ → Type 0
-    Last n c = ((c ≡ none) × (moved_in p (table n f) ≡ false)) ⊎ ((c < n) × (in_set (f c).moved p ≡ true) × (moved_in p (drop (suc c) (table n f)) ≡ false))
+  module _ (f : ℕ → LiveLine) where
+    -- of the first n the one at c was the last that moved p, or none did
+    abbrev pub Last : ℕ → Option ℕ → Type 0
+    Last n None = moved_in p (table n f) ≡ false
+    Last n (Some c) = (c < n) × (in_set (f c).moved p ≡ true) × (moved_in p (drop (suc c) (table n f)) ≡ false)
 
-    pub last_none : Last 0 none
-    last_none = inl (refl, refl)
+    more : (n : ℕ) → table (n + 1) f ≡ table n f ++ (f n ∷ [])
+    more n = table_more n f
 
-    -- one line more
-    pub last_more : (n c r : ℕ) → Last n c → r ≡ pick (in_set (f n).moved p) n c → Last (n + 1) r
-    last_more n c r h e = go (in_set (f n).moved p) refl h e
-      where
-        more : table (n + 1) f ≡ table n f ++ (f n ∷ [])
-        more = table_more n f
+    -- one line more, which moved p, or did not
+    pub last_moves : (n : ℕ) → in_set (f n).moved p ≡ true → Last (n + 1) (Some n)
+    last_moves n m = (omega arith, m, moved-end (table (n + 1) f) (suc n) (rw length-table (omega arith)))
 
-        go : (b : Bool) → in_set (f n).moved p ≡ b → Last n c → r ≡ pick b n c → Last (n + 1) r
-        go true m h q = rw q (inr (omega arith, m, moved-end (table (n + 1) f) (suc n) (rw length-table (omega arith))))
-        go false m (inl (d, none)) q = inl (q ∙ d, ap (moved_in p) more ∙ moved-snoc (table n f) (f n) ∙ (λ i. none i || m i))
-        go false m (inr (lt, d, later)) q =
-            rw q (inr (
-              omega arith,
-              d,
-              ap (λ (l : List LiveLine). moved_in p (drop (suc c) l)) more
-                  ∙ ap (moved_in p) (drop-append-le (suc c) (table n f) (f n ∷ []) (rw length-table lt)) ∙ moved-snoc (drop (suc c) (table n f)) (f n) ∙ (λ i. later i || m i),
-            ))
+    pub last_stays : (n : ℕ) (o : Option ℕ) → in_set (f n).moved p ≡ false → Last n o → Last (n + 1) o
+    last_stays n None m none = ap (moved_in p) (more n) ∙ moved-snoc (table n f) (f n) ∙ (λ i. none i || m i)
+    last_stays n (Some c) m (lt, d, later) = (
+      omega arith,
+      d,
+      ap (λ (l : List LiveLine). moved_in p (drop (suc c) l)) (more n)
+          ∙ ap (moved_in p) (drop-append-le (suc c) (table n f) (f n ∷ []) (rw length-table lt)) ∙ moved-snoc (drop (suc c) (table n f)) (f n) ∙ (λ i. later i || m i),
+    )
 
   -- all lines were looked at
-  pub last-all : (n : ℕ) (f : ℕ → LiveLine) (c : ℕ) → Last n f n c → LastAt p (table n f) c
-  last-all n f c (inl (e, free)) = record {
-    none = λ _. e ∙ sym (length-table n f);
+  pub last-all : (n : ℕ) (f : ℕ → LiveLine) (o : Option ℕ) → Last f n o → MatchOption o (LastAt p (table n f) n) (λ c. LastAt p (table n f) c × (c < n))
+  last-all n f None free = record {
+    none = λ _. sym (length-table n f);
     below = λ m. both (moved_in p (table n f)) m free;
     moves = λ m. both (moved_in p (table n f)) m free;
-    last = moved-end (table n f) (suc c) (rw length-table (omega arith));
+    last = moved-end (table n f) (suc n) (rw length-table (omega arith));
   }
-  last-all n f c (inr (lt, e, later)) =
+  last-all n f (Some c) (lt, e, later) =
       let at : in_set (get_or (table n f) c no_line).moved p ≡ true = ap (λ (l : LiveLine). in_set l.moved p) (get_d-table n f c no_line lt) ∙ e in
-      let low : c < length (table n f) = rw length-table lt in
-      record {
-        none = λ m. both (moved_in p (table n f)) (any-i (λ (l : LiveLine). in_set l.moved p) (table n f) (get_or (table n f) c no_line) (mem-at (table n f) no_line c low) at) m;
-        below = λ _. low;
-        moves = λ _. at;
-        last = later;
-      }
+      let low : c < length (table n f) = rw length-table lt in (
+        record {
+          none = λ m. both (moved_in p (table n f)) (any-i (λ (l : LiveLine). in_set l.moved p) (table n f) (get_or (table n f) c no_line) (mem-at (table n f) no_line c low) at) m;
+          below = λ _. low;
+          moves = λ _. at;
+          last = later;
+        },
+        lt,
+      )
 
 -- ---- the way up from it
 
@@ -83,23 +81,24 @@ module _ (dep : LiveLine → LiveLine → Bool) where
       moved-mid [] = or_l (in_set l.moved p) (moved_in p ys) i
       moved-mid (x ∷ xs) = or_r (in_set x.moved p) (moved_in p (xs ++ l ∷ ys)) (moved-mid xs)
 
-  -- one line further: the one at c is in hand, and r is the one that is in hand then
+  -- one line further: the one at c is in hand, and gives way to the one at i or does not
   module _ (n : ℕ) (f : ℕ → LiveLine) where
     abbrev ls : List LiveLine
     ls = table n f
 
-    pub top-turn : (c i r : ℕ) → c < n → i < n → r ≡ pick (dep (f c) (f i)) i c → top_of dep (get_or ls r no_line) (drop (i + 1) ls) ≡ top_of dep (get_or ls c no_line) (drop i ls)
-    top-turn c i r k h e =
+    turn : (c i : ℕ) → c < n → i < n → top_of dep (pick (dep (f c) (f i)) (get_or ls i no_line) (get_or ls c no_line)) (drop (i + 1) ls) ≡ top_of dep (get_or ls c no_line) (drop i ls)
+    turn c i k h =
         let x : LiveLine = get_or ls c no_line in
         let y : LiveLine = get_or ls i no_line in
-        let q : r ≡ pick (dep x y) i c = e ∙ sym (λ j. pick (dep (get_d-table n f c no_line k j) (get_d-table n f i no_line h j)) i c) in
-        ap (λ (m : ℕ). top_of dep (get_or ls r no_line) (drop m ls)) (add-one i)
-        ∙ ap (λ (l : LiveLine). top_of dep l (drop (suc i) ls)) (ap (λ (m : ℕ). get_or ls m no_line) q ∙ in-hand (dep x y))
+        ap (λ (m : ℕ). top_of dep (pick (dep (f c) (f i)) y x) (drop m ls)) (add-one i)
+        ∙ sym (λ j. top_of dep (pick (dep (get_d-table n f c no_line k j) (get_d-table n f i no_line h j)) y x) (drop (suc i) ls))
         ∙ sym (ap (top_of dep x) (drop-cons ls i no_line (rw length-table h)))
-      where
-        in-hand : (b : Bool) → get_or ls (pick b i c) no_line ≡ pick b (get_or ls i no_line) (get_or ls c no_line)
-        in-hand true = refl
-        in-hand false = refl
+
+    pub top-gives : (c i : ℕ) → c < n → i < n → dep (f c) (f i) ≡ true → top_of dep (get_or ls i no_line) (drop (i + 1) ls) ≡ top_of dep (get_or ls c no_line) (drop i ls)
+    top-gives c i k h e = ap (λ (b : Bool). top_of dep (pick b (get_or ls i no_line) (get_or ls c no_line)) (drop (i + 1) ls)) (sym e) ∙ turn c i k h
+
+    pub top-stays : (c i : ℕ) → c < n → i < n → dep (f c) (f i) ≡ false → top_of dep (get_or ls c no_line) (drop (i + 1) ls) ≡ top_of dep (get_or ls c no_line) (drop i ls)
+    top-stays c i k h e = ap (λ (b : Bool). top_of dep (pick b (get_or ls i no_line) (get_or ls c no_line)) (drop (i + 1) ls)) (sym e) ∙ turn c i k h
 
   pub top-end : (ls : List LiveLine) (l : LiveLine) (n : ℕ) → length ls ≤ n → top_of dep l (drop n ls) ≡ l
   top-end ls l n h = ap (top_of dep l) (drop_of_length-le ls h)
@@ -118,8 +117,3 @@ module _ (dep : LiveLine → LiveLine → Bool) where
       below = λ _. low;
       top = λ m. e ∙ sym (ap (top_at dep p) (split_at ls c no_line h) ∙ top_split p (take c ls) (get_or ls c no_line) (drop (suc c) ls) (L.moves m) L.last);
     }
-
--- the one in hand gives way to i or stays
-pub picked : (b : Bool) (i top n : ℕ) → i < n → top < n → pick b i top < n
-picked true i top n h k = h
-picked false i top n h k = k

@@ -1,7 +1,8 @@
 -- `live_list::no_live`: the answers to the goals that the check leaves.
+use mathlib.Core.Path.{refl}
 use Rattle.live_list.specs.List.{not_listed}
 use Rattle.live_list.proofs.no_live.Goals as goal
 
 pub returns : goal.returns
 unfolding not_listed
-returns c = rw c.no_firing-zero.ensures
+returns c = refl

@@ -1,28 +1,23 @@
 -- `movers::last_mover`: the answers to the goals that the check leaves.
-use borrow.Author.Rules.{rules}
 use native.Mathlib.Omega.{arith}
-use mathlib.Core.Path.{◌≡◌, subst}
+use mathlib.Core.Path.{◌≡◌, subst, sym, ◌∙◌}
 use Prim.Native.Nat.{ℕ}
 use Rattle.net.specs.Limits.{max_bases}
-use Rattle.net.specs.Journal.{LiveLine}
-use Rattle.firings.specs.Lines.{firing_at, as_line}
-use Rattle.movers.proofs.Tops.{Last, last_none, last_more, last-all}
+use Rattle.firings.proofs.Lines.{line_at}
+use Rattle.movers.proofs.Tops.{Last, last_moves, last_stays, last-all}
 use Rattle.movers.proofs.last_mover.Goals as goal
-
-pub loop-i-init : goal.loop-i-init
-loop-i-init c = (search rules, search rules, search rules, λ ts keys. last_none c.args.p c.args.live (λ j. as_line max_bases (firing_at ts keys c.args.moved.now j)))
+use Rattle.movers.proofs.last_mover.Goals.{then-has_base, else-has_base}
 
 pub loop-i-preserved : goal.loop-i-preserved
-loop-i-preserved c = (
-  search rules,
-  search rules,
-  search rules,
-  λ ts keys. last_more c.args.p c.args.live (λ j. as_line max_bases (firing_at ts keys c.args.moved.now j)) c.loop-i.i c.loop-i.last c.mover_or-last.result (c.loop-i.invariant.3 ts keys) c.mover_or-last.ensures,
-)
+loop-i-preserved c =
+    let f = line_at max_bases c.args.f.now in
+    elim c.if-has_base.branch [
+      | then-has_base w ↦ rw w.last-is (last_moves c.args.p f c.loop-i.i (sym c.has_base.ensures ∙ w.if-has_base.true))
+      | else-has_base w ↦ rw w.last-is (last_stays c.args.p f c.loop-i.i c.loop-i.last (sym c.has_base.ensures ∙ w.if-has_base.false) c.loop-i.invariant)
+    ]
 
 pub returns : goal.returns
 returns c =
-    let e : c.loop-i.i ≡ c.args.live = omega arith in
-    λ ts keys.
-    let f : ℕ → LiveLine = λ j. as_line max_bases (firing_at ts keys c.args.moved.now j) in
-    last-all c.args.p c.args.live f c.loop-i.last (subst (λ (n : ℕ). Last c.args.p c.args.live f n c.loop-i.last) e (c.loop-i.invariant.3 ts keys))
+    let f = c.args.f.now in
+    let e : c.loop-i.i ≡ f.live = omega arith in
+    last-all c.args.p f.live (line_at max_bases f) c.loop-i.last (subst (λ (n : ℕ). Last c.args.p (line_at max_bases f) n c.loop-i.last) e c.loop-i.invariant)

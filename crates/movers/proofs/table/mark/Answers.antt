@@ -1,4 +1,5 @@
 -- `movers::table::mark`: the answers to the goals that the check leaves.
+use borrow.Author.Rules.{rules}
 use native.Mathlib.Omega.{arith}
 use mathlib.Core.Path.{◌≡◌, refl, ap, sym, ◌∙◌}
 use Prim.Native.Nat.{ℕ}
@@ -13,7 +14,7 @@ use Rattle.movers.proofs.Marks.{mark-none, mark-turn}
 use Rattle.movers.proofs.table.mark.Goals as goal
 
 pub loop-left-init : goal.loop-left-init
-loop-left-init c = (c.requires, refl)
+loop-left-init c = (search rules, refl)
 
 pub loop-left-smaller : goal.loop-left-smaller
 loop-left-smaller c = c.without_base-left.ensures.upper_bound c.lowest_base-p.ensures.1

@@ -3,18 +3,18 @@ use borrow.Author.Rules.{rules}
 use mathlib.Core.Path.{refl, sym, ◌∙◌}
 use Rattle.net.specs.Limits.{max_bases}
 use Rattle.words.specs.Sets.{set_of}
-use Rattle.firings.specs.Lines.{firing_at, as_line}
+use Rattle.firings.proofs.Lines.{line_at}
 use Rattle.movers.proofs.Marks.{back-passed}
 use Rattle.movers.proofs.table.pass_four.Goals as goal
 
 pub loop-i-init : goal.loop-i-init
-loop-i-init c = (c.requires.0, search rules, c.requires.1, λ ts keys table. refl)
+loop-i-init c = (c.requires.0, search rules, c.requires.1, λ table. refl)
 
 pub loop-i-preserved : goal.loop-i-preserved
 loop-i-preserved c = (
   search rules,
   search rules,
   search rules,
-  λ ts keys table. back-passed max_bases (λ j. as_line max_bases (firing_at ts keys c.args.moved.now j)) c.loop-i.i c.loop-i-test.true (set_of max_bases c.union-upper.result) (set_of max_bases c.union-lower.result) (set_of max_bases c.union.result) c.union-upper.ensures c.union-lower.ensures c.union.ensures (set_of max_bases c.args.set) (sym c.shares.ensures ∙ c.if-shares.false) table
-      ∙ c.loop-i.invariant.3 ts keys table,
+  λ table. back-passed max_bases (line_at max_bases c.args.f.now) c.loop-i.i c.loop-i-test.true (set_of max_bases c.union-upper.result) (set_of max_bases c.union-lower.result) (set_of max_bases c.union.result) c.union-upper.ensures c.union-lower.ensures c.union.ensures (set_of max_bases c.args.set) (sym c.shares.ensures ∙ c.if-shares.false) table
+      ∙ c.loop-i.invariant.3 table,
 )

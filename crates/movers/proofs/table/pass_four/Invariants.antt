@@ -4,13 +4,14 @@ use mathlib.Core.List.{List}
 use Prim.Native.Nat.{ℕ, ◌<◌, ◌≤◌}
 use Rattle.net.specs.Limits.{max_bases, max_live}
 use Rattle.words.specs.Sets.{set_of}
-use Rattle.firings.specs.Lines.{lying, lines_in}
+use Rattle.firings.specs.Lines.{lines_in}
 use Rattle.movers.specs.Lamp.{given_back}
 use Rattle.movers.proofs.table.pass_four.Given as goal
 
 abbrev pub invariant-loop-i : goal.invariant-loop-i
 invariant-loop-i l =
-    (0 < l.i) × (l.i ≤ l.n) × (l.n ≤ max_live) × ((ts keys table : List ℕ) → given_back max_bases (lines_in max_bases (lying l.i ts keys l.moved)) (set_of max_bases l.set) table ≡ given_back max_bases (lines_in max_bases (lying l.n ts keys l.moved)) (set_of max_bases l.set) table)
+    (0 < l.i) × (l.i ≤ l.n) × (l.n ≤ max_live)
+    × ((table : List ℕ) → given_back max_bases (lines_in max_bases (record l.f { live = l.i })) (set_of max_bases l.set) table ≡ given_back max_bases (lines_in max_bases (record l.f { live = l.n })) (set_of max_bases l.set) table)
 
 abbrev pub decreases-loop-i : goal.decreases-loop-i
 decreases-loop-i l = l.i
