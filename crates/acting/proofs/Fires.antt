@@ -25,7 +25,7 @@ use Rattle.sheet.proofs.Order.{first-append}
 use Rattle.words.specs.Sets.{set_of, packed}
 use Rattle.marking.specs.Form.{marking_of, laid}
 use Rattle.marking.specs.declared.Marking.{Marking}
-use Rattle.firings.specs.Lines.{lying, firings_of}
+use Rattle.firings.specs.Lines.{lying, firings_of, pushed}
 use Rattle.firings.proofs.Changes.{with-line}
 use Rattle.movers.specs.Lamp.{marked}
 use Rattle.replaying.proofs.Lines.{enabled-first, enabled-listed}
@@ -58,10 +58,10 @@ module _ (s : List ℕ) (m : Marking) (f : Firings) (g : Key) (ms : List ℕ) (t
   first-is : first (fire_checks (net_of s) j t) ≡ pick (eqb (first es) 0) (first (space_checks j)) (first es)
   first-is = first-append es (space_checks j) refl
 
-  refused : (n : ℕ) → clear (fire_checks (net_of s) j t) ≡ false → first (fire_checks (net_of s) j t) ≡ n → (d : Done) → d ≡ refused_in n m.count f.live g → Did (fire_act (net_of s) j t) d m f ms
+  refused : (n : ℕ) → clear (fire_checks (net_of s) j t) ≡ false → first (fire_checks (net_of s) j t) ≡ n → (d : Done) → d ≡ refused_in n g → Did (fire_act (net_of s) j t) d m f ms
   refused n c e d q = refused_did s m f g ms K (fire_act (net_of s) j t) n (by_first false n c e) d q
 
-  pub not-enabled : (n : ℕ) → n ≡ first es → (n ≡ 0 → ⊥) → (d : Done) → d ≡ refused_in n m.count f.live g → Did (fire_act (net_of s) j t) d m f ms
+  pub not-enabled : (n : ℕ) → n ≡ first es → (n ≡ 0 → ⊥) → (d : Done) → d ≡ refused_in n g → Did (fire_act (net_of s) j t) d m f ms
   not-enabled n e h =
       let q : eqb (first es) 0 ≡ false = ap (λ (k : ℕ). eqb k 0) (sym e) ∙ ne_eqb n 0 h in
       refused n (clear-is ∙ ap (λ (b : Bool). b && clear (space_checks j)) q) (first-is ∙ ap (λ (b : Bool). pick b (first (space_checks j)) (first es)) q ∙ sym e)
@@ -79,7 +79,7 @@ module _ (s : List ℕ) (m : Marking) (f : Firings) (g : Key) (ms : List ℕ) (t
     pub listed : t.0 < transitions_of s
     listed = enabled-listed s j.marking t (enabled-first (net_of s) j.marking t ∙ enabled)
 
-    pub full : max_live ≤ f.live → (d : Done) → d ≡ refused_in 17 m.count f.live g → Did (fire_act (net_of s) j t) d m f ms
+    pub full : max_live ≤ f.live → (d : Done) → d ≡ refused_in 17 g → Did (fire_act (net_of s) j t) d m f ms
     full h =
         let q : leb max_live (length j.lines) ≡ true = ap (leb max_live) (sym (live-is s m f g P)) ∙ le-leb max_live f.live h in
         refused 17 (clear-space ∙ rw q) (first-space ∙ rw q)
@@ -91,7 +91,7 @@ module _ (s : List ℕ) (m : Marking) (f : Firings) (g : Key) (ms : List ℕ) (t
       not_full : leb max_live (length j.lines) ≡ false
       not_full = ap (leb max_live) (sym (live-is s m f g P)) ∙ lt-leb max_live f.live room
 
-      pub spent : max_key ≤ last.0 → (d : Done) → d ≡ refused_in 18 m.count f.live g → Did (fire_act (net_of s) j t) d m f ms
+      pub spent : max_key ≤ last.0 → (d : Done) → d ≡ refused_in 18 g → Did (fire_act (net_of s) j t) d m f ms
       spent h =
           let q : leb max_key (last_given j).0 ≡ true = le-leb max_key last.0 h in
           refused 18 (clear-space ∙ rw (not_full, q)) (first-space ∙ rw (not_full, q))
@@ -101,10 +101,11 @@ module _ (s : List ℕ) (m : Marking) (f : Firings) (g : Key) (ms : List ℕ) (t
       more w = lying (f.live + 1) (set f.transitions f.live t.0) (set f.keys f.live (last.0 + 1)) (set f.moved f.live w)
 
       pub done : last.0 < max_key → (m' : Marking) (w : ℕ) → m' ≡ laid (fire (bases_of s) (arcs_of (net_of s) t) (marking_of (bases_of s) m))
-          → w ≡ packed (moved (bases_of s) (arcs_of (net_of s) t) (marking_of (bases_of s) m)) → (ms' : List ℕ) → ms' ≡ marked max_bases (set_of max_bases w) (last.0 + 1) ms → (count : ℕ)
-          → Did (fire_act (net_of s) j t) (record { answer = Fired; key = key (last.0 + 1); count = count; live = f.live + 1; given = key (last.0 + 1) }) m' (more w) ms'
+          → w ≡ packed (moved (bases_of s) (arcs_of (net_of s) t) (marking_of (bases_of s) m)) → (f' : Firings) → f' ≡ pushed (record { transition = t.0; key = key (last.0 + 1); moved = w }) f
+          → (ms' : List ℕ) → ms' ≡ marked max_bases (set_of max_bases w) (last.0 + 1) ms
+          → Did (fire_act (net_of s) j t) (record { answer = Fired; key = key (last.0 + 1); given = key (last.0 + 1) }) m' f' ms'
       unfolding net_of
-      done h m' w em ew ms' et count =
+      done h m' w em ew f' ef ms' et =
           let q : leb max_key (last_given j).0 ≡ false = lt-leb max_key last.0 h in
           let l : LiveLine = new_line (net_of s) j t in
           let k : last.0 + 1 ≡ suc (last_given j).0 = add-one last.0 in
@@ -112,5 +113,5 @@ module _ (s : List ℕ) (m : Marking) (f : Firings) (g : Key) (ms : List ℕ) (t
           let fs : more w ≡ firings_of (j.lines ++ (l ∷ [])) =
           with-line j.lines l f.live t.0 (last.0 + 1) w f.transitions f.keys f.moved size (live-is s m f g P) refl k ew (firings-are s m f g P) in
           let e : fire_act (net_of s) j t ≡ fire_reply (net_of s) j t = by_first true 0 (clear-space ∙ rw (not_full, q)) (first-space ∙ rw (not_full, q)) in
-          subst (λ (y : Reply). Did y (record { answer = Fired; key = key (last.0 + 1); count = count; live = f.live + 1; given = key (last.0 + 1) }) m' (more w) ms') (sym e)
-          (record { answer = refl; key = ap key k; marking = em; firings = fs; movers = et ∙ movers-fired s m f g ms K l (last.0 + 1) w k ew (length-table (bases_of s) _); given = ap key k })
+          subst (λ (y : Reply). Did y (record { answer = Fired; key = key (last.0 + 1); given = key (last.0 + 1) }) m' f' ms') (sym e)
+          (record { answer = refl; key = ap key k; marking = em; firings = ef ∙ fs; movers = et ∙ movers-fired s m f g ms K l (last.0 + 1) w k ew (length-table (bases_of s) _); given = ap key k })

@@ -16,8 +16,8 @@ pub did-by : (x y : Reply) → x ≡ y → (d : Done) (m : Marking) (f : Firings
 did-by x y e d m f t = subst (λ (z : Reply). Did z d m f t) (sym e)
 
 pub refused_did : (s : List ℕ) (m : Marking) (f : Firings) (g : Key) (t : List ℕ) → Kept s m f g t → (y : Reply) (n : ℕ) → y ≡ refuse (journal_in (bases_of s) m f g) n
-    → (d : Done) → d ≡ refused_in n m.count f.live g → Did y d m f t
+    → (d : Done) → d ≡ refused_in n g → Did y d m f t
 refused_did s m f g t K y n e d q =
     subst (λ (x : Done). Did y x m f t) (sym q)
-    (did-by y (refuse (journal_in (bases_of s) m f g) n) e (refused_in n m.count f.live g) m f t
+    (did-by y (refuse (journal_in (bases_of s) m f g) n) e (refused_in n g) m f t
     (record { answer = refl; key = refl; marking = K.passed.laid_out.0; firings = K.passed.laid_out.1; movers = K.movers; given = refl }))

@@ -55,7 +55,7 @@ module _ (s : List ℕ) (m : Marking) (f : Firings) (g : Key) (ms : List ℕ) (k
     place_is : i ≡ index_of k (line_keys ls)
     place_is = ei ∙ ap (index_of k) (keys-of-lines (bases_of s) f)
 
-    pub dead : f.live ≤ i → (d : Done) → d ≡ refused_in 19 m.count f.live g → Did (undo_act (net_of s) j k) d m f ms
+    pub dead : f.live ≤ i → (d : Done) → d ≡ refused_in 19 g → Did (undo_act (net_of s) j k) d m f ms
     dead h =
         let a = live-are in
         let b = place-most k ls in
@@ -73,17 +73,17 @@ module _ (s : List ℕ) (m : Marking) (f : Firings) (g : Key) (ms : List ℕ) (k
       built-is : built_on ls (line_of k ls) ≡ not lit
       built-is = twice (built_on ls (line_of k ls)) ∙ ap not (sym (top-line s m f g P i h k found ms ∙ top-is s m f g ms K i h k found))
 
-      pub built : lit ≡ false → (d : Done) → d ≡ refused_in 20 m.count f.live g → Did (undo_act (net_of s) j k) d m f ms
+      pub built : lit ≡ false → (d : Done) → d ≡ refused_in 20 g → Did (undo_act (net_of s) j k) d m f ms
       built e =
           let q : built_on ls (line_of k ls) ≡ true = built-is ∙ ap not e in
           refused_did s m f g ms K (undo_act (net_of s) j k) 20 (by_first false 20 (rw (found.live, q)) (rw (found.live, q)))
 
-      pub done : lit ≡ true → (m' : Marking) (f' : Firings) (ms' : List ℕ) → UndoneAt s m f i m' f' → ms' ≡ given_back max_bases (firsts f max_bases i) (set_of max_bases (get_or f.moved i 0)) ms → (count live : ℕ)
-          → Did (undo_act (net_of s) j k) (record { answer = Undone; key = k; count = count; live = live; given = g }) m' f' ms'
-      done e m' f' ms' T et count live =
+      pub done : lit ≡ true → (m' : Marking) (f' : Firings) (ms' : List ℕ) → UndoneAt s m f i m' f' → ms' ≡ given_back max_bases (firsts f max_bases i) (set_of max_bases (get_or f.moved i 0)) ms
+          → Did (undo_act (net_of s) j k) (record { answer = Undone; key = k; given = g }) m' f' ms'
+      done e m' f' ms' T et =
           let q : built_on ls (line_of k ls) ≡ false = built-is ∙ ap not e in
           let em = marking-after s m f g P i h k found m' f' T in
           let ef = firings-after s m f g P i h k found m' f' T in
           let b : undo_act (net_of s) j k ≡ undo_reply (net_of s) j k = by_first true 0 (rw (found.live, q)) (rw (found.live, q)) in
-          subst (λ (y : Reply). Did y (record { answer = Undone; key = k; count = count; live = live; given = g }) m' f' ms') (sym b)
+          subst (λ (y : Reply). Did y (record { answer = Undone; key = k; given = g }) m' f' ms') (sym b)
           (record { answer = refl; key = refl; marking = em; firings = ef; movers = et ∙ movers-undone s m f g ms K i h k found q; given = refl })

@@ -1,71 +1,63 @@
-// Firing and taking back in place (document 01, commands, record, tally): what a command of kind 1, or of kind 2 or 3, does to the arrays
-// of a record that are lent.
+// Firing and taking back in place (document 01, commands, record, tally): what a command of kind 1, or of kind 2 or 3, does to what a
+// record holds.
 #![tactic(auto)]
 
-ghost use Rattle.bonds.specs.Ends.{bonds_in};
+ghost use Rattle.marking.specs.Form.{bonds_of};
 ghost use Rattle.labels.specs.Labelled.{Labelled};
 ghost use Rattle.format.specs.Parts.{bases_of};
 ghost use Rattle.format.specs.NetOf.{net_of};
-ghost use Rattle.marking.specs.Held.{holding};
-ghost use Rattle.firings.specs.Lines.{lying};
 ghost use Rattle.sound.specs.Soundness.{journal_in, Kept};
 ghost use Rattle.commands.specs.Doing.{fire_act, undo_act, Did};
 
 use commands::{Answer, Done, refused_in};
-use firings::index_of;
+use firings::{Firing, Firings};
+use labels::Labels;
+use marking::Marking;
 use movers::table::{mark, mark_back, on_top};
-use net::{Base, Key, MAX_BASES, MAX_BONDS, MAX_KEY, MAX_LIVE, Place, Transition};
+use net::{Key, MAX_BASES, MAX_KEY, MAX_LIVE, Transition};
 use steps::enable_refusal;
 use undoing::undo_at;
 
-// Kind 1, in place on the arrays of a record: places, bonds, live firings and last movers; the highest key given goes by value, and
-// beside them the labels of the bonds are lent.
+// Kind 1, in place on what a record holds: marking, live firings and last movers; the highest key given goes by value, and beside
+// them go the labels of the bonds.
 // The record is sound and the sheet accepted, here and below: `perform` and a list of commands see to it.
 pub fn fire_in(
     sheet: &[u8],
     t: Transition,
-    places: &mut [Place; MAX_BASES],
-    count: usize,
-    lo: &mut [Base; MAX_BONDS],
-    hi: &mut [Base; MAX_BONDS],
-    live: usize,
-    transitions: &mut [u8; MAX_LIVE],
-    keys: &mut [u16; MAX_LIVE],
-    moved: &mut [u64; MAX_LIVE],
+    m: &mut Marking,
+    f: &mut Firings,
     movers: &mut [u16; MAX_BASES],
-    l: &mut [Base; MAX_BASES],
-    members: &mut [u64; MAX_BASES],
+    labels: &mut Labels,
     given: Key,
 ) -> Done
-    requires { Kept sheet.now (holding places.old count lo.old hi.old) (lying live transitions.old keys.old moved.old) given movers.old
-        × Labelled l.old members.old (bonds_in lo.old hi.old count) }
-    ensures did { Did (fire_act (net_of sheet.now)
-        (journal_in (bases_of sheet.now) (holding places.old count lo.old hi.old)
-        (lying live transitions.old keys.old moved.old) given) t)
-        result (holding places.new result.count lo.new hi.new) (lying result.live transitions.new keys.new moved.new) movers.new }
-    ensures labelled { Labelled l.new members.new (bonds_in lo.new hi.new result.count) }
+    requires { Kept sheet.now m.old f.old given movers.old
+        × Labelled labels.old.of labels.old.members (bonds_of m.old) }
+    ensures did { Did (fire_act (net_of sheet.now) (journal_in (bases_of sheet.now) m.old f.old given) t)
+        result m.new f.new movers.new }
+    ensures labelled { Labelled labels.new.of labels.new.members (bonds_of m.new) }
 {
-    let refusal = enable_refusal(sheet, places, count, lo, hi, l, t);
+    let refusal = enable_refusal(sheet, m, labels, t);
     if refusal != 0 {
-        return refused_in(refusal, count, live, given);
+        return refused_in(refusal, given);
     }
-    if MAX_LIVE <= live {
-        return refused_in(17, count, live, given);
+    if MAX_LIVE <= f.live {
+        return refused_in(17, given);
     }
     if MAX_KEY <= given.0 {
-        return refused_in(18, count, live, given);
+        return refused_in(18, given);
     }
-    let fired = steps::fire_in(sheet, places, count, lo, hi, l, members, t);
-    transitions[live] = t.0 as u8;
-    keys[live] = given.0 + 1;
-    moved[live] = fired.moved;
-    mark(movers, fired.moved, Key(given.0 + 1));
+    let moved = steps::fire_in(sheet, m, labels, t);
+    let firing = Firing {
+        transition: t.0 as u8,
+        key: Key(given.0 + 1),
+        moved,
+    };
+    f.push(firing);
+    mark(movers, moved, firing.key);
     Done {
         answer: Answer::Fired,
-        key: Key(given.0 + 1),
-        count: fired.count,
-        live: live + 1,
-        given: Key(given.0 + 1),
+        key: firing.key,
+        given: firing.key,
     }
 }
 
@@ -74,55 +66,30 @@ pub fn fire_in(
 pub fn undo_in(
     sheet: &[u8],
     key: Key,
-    places: &mut [Place; MAX_BASES],
-    count: usize,
-    lo: &mut [Base; MAX_BONDS],
-    hi: &mut [Base; MAX_BONDS],
-    live: usize,
-    transitions: &mut [u8; MAX_LIVE],
-    keys: &mut [u16; MAX_LIVE],
-    moved: &mut [u64; MAX_LIVE],
+    m: &mut Marking,
+    f: &mut Firings,
     movers: &mut [u16; MAX_BASES],
-    l: &mut [Base; MAX_BASES],
-    members: &mut [u64; MAX_BASES],
+    labels: &mut Labels,
     given: Key,
 ) -> Done
-    requires { Kept sheet.now (holding places.old count lo.old hi.old) (lying live transitions.old keys.old moved.old) given movers.old
-        × Labelled l.old members.old (bonds_in lo.old hi.old count) }
-    ensures did { Did (undo_act (net_of sheet.now)
-        (journal_in (bases_of sheet.now) (holding places.old count lo.old hi.old)
-        (lying live transitions.old keys.old moved.old) given) key)
-        result (holding places.new result.count lo.new hi.new) (lying result.live transitions.new keys.new moved.new) movers.new }
-    ensures labelled { Labelled l.new members.new (bonds_in lo.new hi.new result.count) }
+    requires { Kept sheet.now m.old f.old given movers.old
+        × Labelled labels.old.of labels.old.members (bonds_of m.old) }
+    ensures did { Did (undo_act (net_of sheet.now) (journal_in (bases_of sheet.now) m.old f.old given) key)
+        result m.new f.new movers.new }
+    ensures labelled { Labelled labels.new.of labels.new.members (bonds_of m.new) }
 {
-    let i = index_of(keys, live, key);
-    if live <= i {
-        return refused_in(19, count, live, given);
-    }
-    let set = moved[i];
+    let Some(i) = f.index_of(key) else {
+        return refused_in(19, given);
+    };
+    let set = f.moved[i];
     if !on_top(movers, set, key) {
-        return refused_in(20, count, live, given);
+        return refused_in(20, given);
     }
-    mark_back(movers, keys, moved, i, set);
-    let left = undo_at(
-        sheet,
-        places,
-        count,
-        lo,
-        hi,
-        live,
-        transitions,
-        keys,
-        moved,
-        l,
-        members,
-        i,
-    );
+    mark_back(movers, f, i, set);
+    undo_at(sheet, m, f, labels, i);
     Done {
         answer: Answer::Undone,
-        key: key,
-        count: left,
-        live: live - 1,
-        given: given,
+        key,
+        given,
     }
 }

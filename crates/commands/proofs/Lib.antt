@@ -1,3 +1,2 @@
--- What bytes and answers say; then a law for each return of a command in place.
-pub mod Decoding
+-- What an answer says.
 pub mod Saying

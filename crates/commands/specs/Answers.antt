@@ -1,23 +1,22 @@
 -- What a command's bytes say, and what an answer says (01, commands, record, tally; the exam program).
 -- Definitions only.
-use Rattle.std.specs.Prelude.{List, ℕ, eqb}
+use Rattle.std.specs.Prelude.{List, ℕ, eqb, Option, Some, None}
 use Rattle.net.specs.Tests.{pick}
 use Rattle.net.specs.Journal as J
 use Rattle.net.specs.Journal.{key, kind_of, number_of, unreadable, transition_named}
 use Rattle.net.specs.declared.Key.{Key}
 use Rattle.commands.specs.declared.Command.TheVariants.{Fire, UndoLast, Undo}
-use Rattle.commands.specs.declared.Decoded.{Decoded}
-use Rattle.commands.specs.declared.Decoded.TheVariants.{Given, Unreadable}
+use Rattle.commands.specs.declared.Command.{Command}
 use Rattle.commands.specs.declared.Answer.{Answer}
 use Rattle.commands.specs.declared.Answer.TheVariants.{Fired, Undone, Refused}
 
 -- ---- Decoding
 
 -- What the kind and the number say (01, commands): kind 1 fires a transition, kind 2 takes back the last firing and has
--- number 0, kind 3 takes back a firing by its key.
-abbrev pub decoded_of : List ℕ → Decoded
-decoded_of c = pick (unreadable c) Unreadable
-    (Given (pick (eqb (kind_of c) 1) (Fire (transition_named c)) (pick (eqb (kind_of c) 2) UndoLast (Undo (key (number_of c))))))
+-- number 0, kind 3 takes back a firing by its key. None: it cannot be read.
+abbrev pub decoded_of : List ℕ → Option Command
+decoded_of c = pick (unreadable c) None
+    (Some (pick (eqb (kind_of c) 1) (Fire (transition_named c)) (pick (eqb (kind_of c) 2) UndoLast (Undo (key (number_of c))))))
 
 -- ---- Answers
 

@@ -25,7 +25,7 @@ fire_act net j t = pick (clear (fire_checks net j t)) (fire_reply net j t) (refu
 abbrev pub undo_act : Net → Journal → Key → Reply
 undo_act net j k = pick (clear (undo_checks j k)) (undo_reply net j k) (refuse j (first (undo_checks j k)))
 
--- The reply y was given: the answer and its key, and what the arrays hold then, laid out with 0 in every unused entry.
+-- The reply y was given: the answer and its key, and what is held then, laid out with 0 in every unused entry.
 pub record Did (y : Reply) (d : Done) (m : Marking) (f : Firings) (t : List ℕ) : Type 0 where
   pub answer : d.answer ≡ answer_of y.answer
   pub key : d.key ≡ key_of y.answer
@@ -35,5 +35,5 @@ pub record Did (y : Reply) (d : Done) (m : Marking) (f : Firings) (t : List ℕ)
   pub given : d.given ≡ y.journal.given
 
 -- a refusal: nothing changes, and the key is 0
-abbrev pub refused_in : ℕ → ℕ → ℕ → Key → Done
-refused_in n count live k = record { answer = Refused n; key = key 0; count = count; live = live; given = k }
+abbrev pub refused_in : ℕ → Key → Done
+refused_in n k = record { answer = Refused n; key = key 0; given = k }

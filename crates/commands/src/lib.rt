@@ -17,13 +17,6 @@ pub enum Command {
     Undo(Key),
 }
 
-// What three bytes say.
-#[derive(Clone, Copy)]
-pub enum Decoded {
-    Given(Command),
-    Unreadable,
-}
-
 // The answer to a command; Refused has the number of document 01's list.
 #[derive(Clone, Copy)]
 pub enum Answer {
@@ -32,25 +25,17 @@ pub enum Answer {
     Refused(u8),
 }
 
-// What the first three bytes say. Nothing after them is read; bytes that are not there read as 0.
-pub fn decode(bytes: &[u8]) -> Decoded
+// What the first three bytes say, where they can be read. Nothing after them is read; bytes that are not there read as 0.
+pub fn decode(bytes: &[u8]) -> Option<Command>
     ensures { result ≡ decoded_of bytes.now }
 {
-    let kind = byte_at(bytes, 0);
     let number = word_at(bytes, 1) as u16;
-    if kind == 1 {
-        return Decoded::Given(Command::Fire(Transition(number)));
+    match byte_at(bytes, 0) {
+        1 => Some(Command::Fire(Transition(number))),
+        2 if number == 0 => Some(Command::UndoLast),
+        3 => Some(Command::Undo(Key(number))),
+        _ => None,
     }
-    if kind == 3 {
-        return Decoded::Given(Command::Undo(Key(number)));
-    }
-    if kind != 2 {
-        return Decoded::Unreadable;
-    }
-    if number != 0 {
-        return Decoded::Unreadable;
-    }
-    Decoded::Given(Command::UndoLast)
 }
 
 // The word that an answer says, which is also the tally's count that it adds to: 0 fired, 1 undone, 2 refused.
@@ -76,26 +61,21 @@ pub fn value_of(a: Answer, key: Key) -> u16
     }
 }
 
-// What a command in place gives: the answer, the key (0 where it is refused), how many bonds and live firings there are then, and
-// the highest key given.
+// What a command in place gives: the answer, the key (0 where it is refused), and the highest key given then.
 #[derive(Clone, Copy)]
 pub struct Done {
     pub answer: Answer,
     pub key: Key,
-    pub count: usize,
-    pub live: usize,
     pub given: Key,
 }
 
 // A refused command changes nothing, and has key 0.
-pub fn refused_in(n: u8, count: usize, live: usize, given: Key) -> Done
-    ensures { result ≡ refused_in n count live given }
+pub fn refused_in(n: u8, given: Key) -> Done
+    ensures { result ≡ refused_in n given }
 {
     Done {
         answer: Answer::Refused(n),
         key: Key(0),
-        count: count,
-        live: live,
-        given: given,
+        given,
     }
 }

@@ -7,6 +7,7 @@ use Prim.Native.Nat.{ℕ, zero, suc, ◌≤◌}
 use native.Mathlib.Omega.{arith}
 use native.Mathlib.Nat.{le_of_suc-le-suc, not-suc-le-zero}
 use lib.Dec.{eqb}
+use Rattle.std.specs.Cmp.Lexicographic.{pointwise}
 use lib.ListN.{length, get_or, take}
 use Rattle.net.specs.Tests.{all, table, same_list}
 use Rattle.net.specs.Net.{same_bond}
@@ -37,6 +38,13 @@ module _ {X : Type 0} (eq : X → X → Bool) where
   same_lists [] (y ∷ k) d h = absurd (let z : ⊥ = omega arith in z)
   same_lists (x ∷ l) [] d h = absurd (let z : ⊥ = omega arith in z)
   same_lists (x ∷ l) (y ∷ k) d h = ap (λ (b : Bool). eq x y && b) (same_lists l k d (omega arith))
+
+-- the library's test of two lists is the one of the definitions
+pub pointwise-same : (a b : List ℕ) → pointwise eqb a b ≡ same_list eqb a b
+pointwise-same [] [] = refl
+pointwise-same [] (y ∷ b) = refl
+pointwise-same (x ∷ a) [] = refl
+pointwise-same (x ∷ a) (y ∷ b) = ap (λ (c : Bool). eqb x y && c) (pointwise-same a b)
 
 -- the bytes at i are the same
 abbrev pub same_at : List ℕ → List ℕ → ℕ → Bool

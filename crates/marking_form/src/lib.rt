@@ -1,5 +1,5 @@
 // The form of a marking (document 01, the record: unused entries hold 0) as a test, and whether two markings
-// are the same; each lies in lent arrays. Every entry is looked at: no early exit within an array.
+// are the same. Every entry of the form is looked at: no early exit within an array.
 #![tactic(auto)]
 
 ghost use Rattle.std.specs.Prelude.{◌≡◌, true, ◌≤◌, eqb, length, take};
@@ -7,78 +7,45 @@ ghost use Rattle.net.specs.Limits.{max_bases, max_bonds};
 ghost use Rattle.net.specs.Tests.{same_list};
 ghost use Rattle.net.specs.History.{same_marking};
 ghost use Rattle.marking.specs.Form.{marking_of, laid, zero_from, in_form};
-ghost use Rattle.marking.specs.Held.{holding};
 
-use net::{Base, MAX_BASES, MAX_BONDS, Place};
+use marking::Marking;
+use net::MAX_BONDS;
 
 // Whether a is nothing but zeros from k on.
-pub fn zero_bytes(a: &[u8], k: usize) -> bool
+fn zero_bytes(a: &[u8], k: usize) -> bool
     ensures { result ≡ zero_from k a.now }
 {
     let mut zero = true;
-    let mut i = k;
-    while i < a.len() {
+    for i in k..a.len() {
         zero = zero & (a[i] == 0);
-        i += 1;
     }
     zero
 }
 
 // Whether a marking of n bases is in its form: the bonds fit, and unused entries are 0. One in its form is laid out as
 // the marking that it holds is.
-pub fn in_form<'a>(
-    n: usize,
-    places: &'a [Place; MAX_BASES],
-    count: usize,
-    lo: &'a [Base; MAX_BONDS],
-    hi: &'a [Base; MAX_BONDS],
-) -> bool
-    ensures value { result ≡ in_form n (holding places.now count lo.now hi.now) }
-    ensures hi_value { result ≡ true → n ≤ max_bases → holding places.now count lo.now hi.now
-        ≡ laid (marking_of n (holding places.now count lo.now hi.now)) }
+pub fn in_form(n: usize, m: &Marking) -> bool
+    ensures value { result ≡ in_form n m.now }
+    ensures laid_out { result ≡ true → n ≤ max_bases → m.now ≡ laid (marking_of n m.now) }
 {
-    let fits = count <= MAX_BONDS;
-    let low = zero_bytes(lo, count);
-    let high = zero_bytes(hi, count);
-    let rest = zero_bytes(places, n);
+    let fits = m.count <= MAX_BONDS;
+    let low = zero_bytes(&m.lo, m.count);
+    let high = zero_bytes(&m.hi, m.count);
+    let rest = zero_bytes(&m.places, n);
     fits & (low & (high & rest))
 }
 
-// Whether a and b begin with the same n bytes.
-fn same_bytes<'a>(a: &'a [u8], b: &'a [u8], n: usize) -> bool
-    requires { (n ≤ length a.now) × (n ≤ length b.now) }
-    ensures { result ≡ same_list eqb (take n a.now) (take n b.now) }
-{
-    let mut same = true;
-    let mut i = 0;
-    while i < n {
-        same = same & (a[i] == b[i]);
-        i += 1;
-    }
-    same
-}
-
 // Whether two markings of n bases are the same. Callers know that the bonds fit and n is within its limit.
-pub fn same_marking<'a>(
-    n: usize,
-    places: &'a [Place; MAX_BASES],
-    count: usize,
-    lo: &'a [Base; MAX_BONDS],
-    hi: &'a [Base; MAX_BONDS],
-    placed: &'a [Place; MAX_BASES],
-    held: usize,
-    los: &'a [Base; MAX_BONDS],
-    his: &'a [Base; MAX_BONDS],
-) -> bool
-    requires { (n ≤ max_bases) × (count ≤ max_bonds) × (held ≤ max_bonds) }
-    ensures { result ≡ same_marking (marking_of n (holding places.now count lo.now hi.now))
-        (marking_of n (holding placed.now held los.now his.now)) }
+pub fn same_marking(n: usize, a: &Marking, b: &Marking) -> bool
+    requires { (n ≤ max_bases) × (a.now.count ≤ max_bonds) × (b.now.count ≤ max_bonds) }
+    ensures { result ≡ same_marking (marking_of n a.now) (marking_of n b.now) }
 {
-    if count != held {
+    if a.count != b.count {
         return false;
     }
-    let all = same_bytes(places, placed, n);
-    let low = same_bytes(lo, los, count);
-    let high = same_bytes(hi, his, count);
+    let count = a.count;
+    let all = a.places[..n] == b.places[..n];
+    let low = a.lo[..count] == b.lo[..count];
+    let high = a.hi[..count] == b.hi[..count];
     all & (low & high)
 }

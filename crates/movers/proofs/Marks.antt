@@ -168,9 +168,3 @@ movers-all ls t = table-cong max_bases _ _ (λ p h. ap (λ (b : Bool). pick b (l
 
 -- ---- two tables
 
--- the library's test of two lists is the one of the definitions
-pub pointwise-same : (a b : List ℕ) → pointwise eqb a b ≡ same_list eqb a b
-pointwise-same [] [] = refl
-pointwise-same [] (y ∷ b) = refl
-pointwise-same (x ∷ a) [] = refl
-pointwise-same (x ∷ a) (y ∷ b) = ap (λ (c : Bool). eqb x y && c) (pointwise-same a b)

@@ -58,12 +58,12 @@ module _ (y : Reply) (d : Done) (m : Marking) (f : Firings) (ms : List ℕ) (D :
   performed = λ i. record { answer = D.answer i; key = D.key i; held = record { marking = D.marking i; firings = D.firings i; movers = D.movers i; given = D.given i } }
 
   -- counted, and its answer as word and value
-  pub stepped : (t : Tally) (x : Stepped) → x.word ≡ word_of d.answer → x.value ≡ value_of d.answer d.key → x.tally ≡ counted_of t x.word → x.given ≡ d.given
-      → StepDid y t x (record { marking = m; firings = f; movers = ms; given = x.given })
-  stepped t x w v n k =
+  pub stepped : (t : Tally) (x : Stepped) → x.word ≡ word_of d.answer → x.value ≡ value_of d.answer d.key → x.tally ≡ counted_of t x.word
+      → StepDid y t x (record { marking = m; firings = f; movers = ms; given = d.given })
+  stepped t x w v n =
       let word : x.word ≡ said_word y.answer = w ∙ ap word_of D.answer in
       record {
-        held_is = λ i. record { marking = D.marking i; firings = D.firings i; movers = D.movers i; given = (k ∙ D.given) i };
+        held_is = λ i. record { marking = D.marking i; firings = D.firings i; movers = D.movers i; given = D.given i };
         tally_is = n ∙ ap (counted_of t) word;
         word_is = word;
         value_is = v ∙ (λ i. value_of (D.answer i) (D.key i));

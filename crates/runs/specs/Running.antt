@@ -6,10 +6,8 @@ use Rattle.net.specs.Limits.{max_bases}
 use Rattle.net.specs.Net.{Net}
 use Rattle.net.specs.Journal as J
 use Rattle.net.specs.Journal.{Journal, Reply, play, answers}
-use Rattle.net.specs.declared.Key.{Key}
 use Rattle.marking.specs.Form.{laid}
-use Rattle.marking.specs.Held.{holding}
-use Rattle.firings.specs.Lines.{lying, firings_of}
+use Rattle.firings.specs.Lines.{firings_of}
 use Rattle.movers.specs.Lamp.{last_movers}
 use Rattle.tally.specs.Counts.{counted_of}
 use Rattle.tally.specs.declared.Tally.{Tally}
@@ -21,10 +19,6 @@ use Rattle.runs.specs.declared.Stepped.{Stepped}
 -- a journal as a record holds it: 0 in every unused entry
 abbrev pub held_of : Journal → Held
 held_of j = record { marking = laid j.marking; firings = firings_of j.lines; movers = last_movers max_bases j.lines; given = j.given }
-
--- what lies in lent arrays, as the struct: places, bonds, live firings, last movers, the highest key given
-abbrev pub held_at : List ℕ → ℕ → List ℕ → List ℕ → ℕ → List ℕ → List ℕ → List ℕ → List ℕ → Key → Held
-held_at places count lo hi live transitions keys moved movers k = record { marking = holding places count lo hi; firings = lying live transitions keys moved; movers = movers; given = k }
 
 -- One command: the reply's answer, its key, and what is held then.
 abbrev pub performed_of : Reply → Performed
@@ -45,7 +39,7 @@ tallied (a ∷ rest) t = tallied rest (counted_of t (said_word a))
 
 -- ---- What the functions in place promise
 
--- One command of a list, with reply y: what the arrays hold, the tally, the answer as word and value.
+-- One command of a list, with reply y: what is held, the tally, the answer as word and value.
 pub record StepDid (y : Reply) (t : Tally) (x : Stepped) (h : Held) : Type 0 where
   pub held_is : h ≡ held_of y.journal
   pub tally_is : x.tally ≡ counted_of t (said_word y.answer)

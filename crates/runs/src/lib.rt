@@ -1,25 +1,23 @@
 // Commands on what a record holds: one command, and a whole list of them given as bytes, on a sound record and an accepted sheet.
-// What is held is copied into arrays once, which each command changes in place, and is put together once at the end.
+// Each command changes what is held in place; the labels of its bonds go with it.
 #![tactic(auto)]
 
 ghost use Rattle.std.specs.Prelude.{◌≡◌, ◌≤◌, length};
 ghost use Rattle.net.specs.Journal.{act};
 ghost use Rattle.format.specs.Parts.{bases_of};
 ghost use Rattle.format.specs.NetOf.{net_of};
-ghost use Rattle.bonds.specs.Ends.{bonds_in};
+ghost use Rattle.marking.specs.Form.{bonds_of};
 ghost use Rattle.labels.specs.Labelled.{Labelled};
-ghost use Rattle.marking.specs.Held.{holding};
-ghost use Rattle.firings.specs.Lines.{lying};
 ghost use Rattle.sound.specs.Soundness.{journal_in, Kept};
 ghost use Rattle.command_list.specs.Commands.{how_many, commands_in};
 ghost use Rattle.runs.specs.Running.{held_at, performed_of, StepDid, RanOn};
 
-use command_list::command_at;
+use command_list::{command_at, how_many};
 use commands::{Answer, value_of, word_of};
 use firings::Firings;
-use labels::label_in;
+use labels::Labels;
 use marking::Marking;
-use net::{Base, Key, MAX_BASES, MAX_BONDS, MAX_LIVE, Place};
+use net::{Key, MAX_BASES};
 use performing::perform_in;
 use tally::{Tally, counted};
 
@@ -40,16 +38,12 @@ pub struct Performed {
     pub held: Held,
 }
 
-// What one command of a list came to: the tally after it, its answer as a word and a value, how many bonds and live firings there
-// are, and the highest key given.
+// What one command of a list came to: the tally after it, and its answer as a word and a value.
 #[derive(Clone, Copy)]
 struct Stepped {
     pub tally: Tally,
     pub word: u8,
     pub value: u16,
-    pub count: usize,
-    pub live: usize,
-    pub given: Key,
 }
 
 // What is held, and the tally, after a list of commands.
@@ -60,124 +54,56 @@ pub struct Ran {
 }
 
 // One command. What it is given is sound and the sheet accepted, here and below: the record's calls see to it.
-pub fn perform_on(
-    sheet: &[u8],
-    bytes: &[u8],
-    m: Marking,
-    f: Firings,
-    before: [u16; MAX_BASES],
-    given: Key,
-) -> Performed
-    requires { Kept sheet.now m f given before }
-    ensures { result ≡ performed_of (act (net_of sheet.now) (journal_in (bases_of sheet.now) m f given) bytes.now) }
+pub fn perform_on(sheet: &[u8], bytes: &[u8], before: Held) -> Performed
+    requires { Kept sheet.now before.marking before.firings before.given before.movers }
+    ensures { result ≡ performed_of (act (net_of sheet.now)
+        (journal_in (bases_of sheet.now) before.marking before.firings before.given) bytes.now) }
 {
-    let mut places = m.places;
-    let mut lo = m.lo;
-    let mut hi = m.hi;
-    let mut transitions = f.transitions;
-    let mut keys = f.keys;
-    let mut moved = f.moved;
-    let mut movers = before;
-    let mut l = [0u8; MAX_BASES];
-    let mut members = [0u64; MAX_BASES];
-    label_in(&mut l, &mut members, &lo, &hi, m.count);
+    let mut held = before;
+    let mut labels = Labels::of_marking(&held.marking);
     let done = perform_in(
         sheet,
         bytes,
-        &mut places,
-        m.count,
-        &mut lo,
-        &mut hi,
-        f.live,
-        &mut transitions,
-        &mut keys,
-        &mut moved,
-        &mut movers,
-        &mut l,
-        &mut members,
-        given,
+        &mut held.marking,
+        &mut held.firings,
+        &mut held.movers,
+        &mut labels,
+        held.given,
     );
-    let answer = done.answer;
-    let key = done.key;
-    let next = done.given;
+    held.given = done.given;
     Performed {
-        answer: answer,
-        key: key,
-        held: Held {
-            marking: Marking {
-                places: places,
-                count: done.count,
-                lo: lo,
-                hi: hi,
-            },
-            firings: Firings {
-                live: done.live,
-                transitions: transitions,
-                keys: keys,
-                moved: moved,
-            },
-            movers: movers,
-            given: next,
-        },
+        answer: done.answer,
+        key: done.key,
+        held,
     }
 }
 
-// One command of a list in place, with the tally by value. `run_on` sees to it that the arrays hold what is sound and the labels are
-// those of its bonds.
-fn step_in(
-    sheet: &[u8],
-    bytes: &[u8],
-    t: Tally,
-    places: &mut [Place; MAX_BASES],
-    count: usize,
-    lo: &mut [Base; MAX_BONDS],
-    hi: &mut [Base; MAX_BONDS],
-    live: usize,
-    transitions: &mut [u8; MAX_LIVE],
-    keys: &mut [u16; MAX_LIVE],
-    moved: &mut [u64; MAX_LIVE],
-    movers: &mut [u16; MAX_BASES],
-    l: &mut [Base; MAX_BASES],
-    members: &mut [u64; MAX_BASES],
-    given: Key,
-) -> Stepped
-    requires { Kept sheet.now (holding places.old count lo.old hi.old) (lying live transitions.old keys.old moved.old) given movers.old
-        × Labelled l.old members.old (bonds_in lo.old hi.old count) }
+// One command of a list in place, with the tally by value. `run_on` sees to it that what is held is sound and the labels are those
+// of its bonds.
+fn step_in(sheet: &[u8], bytes: &[u8], t: Tally, held: &mut Held, labels: &mut Labels) -> Stepped
+    requires { Kept sheet.now held.old.marking held.old.firings held.old.given held.old.movers
+        × Labelled labels.old.of labels.old.members (bonds_of held.old.marking) }
     ensures step_did { StepDid (act (net_of sheet.now)
-        (journal_in (bases_of sheet.now) (holding places.old count lo.old hi.old)
-        (lying live transitions.old keys.old moved.old) given) bytes.now) t result
-        (held_at places.new result.count lo.new hi.new result.live transitions.new keys.new moved.new movers.new result.given) }
-    ensures labelled { Labelled l.new members.new (bonds_in lo.new hi.new result.count) }
+        (journal_in (bases_of sheet.now) held.old.marking held.old.firings held.old.given) bytes.now) t result held.new }
+    ensures labelled { Labelled labels.new.of labels.new.members (bonds_of held.new.marking) }
 {
     let done = perform_in(
         sheet,
         bytes,
-        places,
-        count,
-        lo,
-        hi,
-        live,
-        transitions,
-        keys,
-        moved,
-        movers,
-        l,
-        members,
-        given,
+        &mut held.marking,
+        &mut held.firings,
+        &mut held.movers,
+        labels,
+        held.given,
     );
-    let answer = done.answer;
-    let key = done.key;
-    let next_given = done.given;
-    let word = word_of(answer);
-    let value = value_of(answer, key);
+    held.given = done.given;
+    let word = word_of(done.answer);
+    let value = value_of(done.answer, done.key);
     let next = counted(t, word);
     Stepped {
         tally: next,
-        word: word,
-        value: value,
-        count: done.count,
-        live: done.live,
-        given: next_given,
+        word,
+        value,
     }
 }
 
@@ -187,78 +113,27 @@ pub fn run_on(
     sheet: &[u8],
     commands: &[u8],
     t: Tally,
-    m: Marking,
-    f: Firings,
-    before: [u16; MAX_BASES],
-    highest: Key,
+    before: Held,
     words: &mut [u8],
     values: &mut [u16],
 ) -> Ran
-    requires { Kept sheet.now m f highest before × (how_many commands.now ≤ length words.old) × (how_many commands.now ≤ length values.old) }
-    ensures { RanOn (net_of sheet.now) (journal_in (bases_of sheet.now) m f highest) (commands_in commands.now) t
-        words.old values.old result.held result.tally words.new values.new }
+    requires { Kept sheet.now before.marking before.firings before.given before.movers
+        × (how_many commands.now ≤ length words.old) × (how_many commands.now ≤ length values.old) }
+    ensures { RanOn (net_of sheet.now) (journal_in (bases_of sheet.now) before.marking before.firings before.given)
+        (commands_in commands.now) t words.old values.old result.held result.tally words.new values.new }
 {
-    let mut places = m.places;
-    let mut count = m.count;
-    let mut lo = m.lo;
-    let mut hi = m.hi;
-    let mut live = f.live;
-    let mut transitions = f.transitions;
-    let mut keys = f.keys;
-    let mut moved = f.moved;
-    let mut movers = before;
-    let mut l = [0u8; MAX_BASES];
-    let mut members = [0u64; MAX_BASES];
-    label_in(&mut l, &mut members, &lo, &hi, count);
+    let mut held = before;
+    let mut labels = Labels::of_marking(&held.marking);
     let mut counts = t;
-    let mut given = highest;
-    let mut at = 0;
-    let mut i = 0;
-    while at < commands.len() {
-        let bytes = command_at(commands, at);
-        let done = step_in(
-            sheet,
-            bytes,
-            counts,
-            &mut places,
-            count,
-            &mut lo,
-            &mut hi,
-            live,
-            &mut transitions,
-            &mut keys,
-            &mut moved,
-            &mut movers,
-            &mut l,
-            &mut members,
-            given,
-        );
+    for i in 0..how_many(commands) {
+        let bytes = command_at(commands, 3 * i);
+        let done = step_in(sheet, bytes, counts, &mut held, &mut labels);
         words[i] = done.word;
         values[i] = done.value;
         counts = done.tally;
-        count = done.count;
-        live = done.live;
-        given = done.given;
-        at += 3;
-        i += 1;
     }
     Ran {
-        held: Held {
-            marking: Marking {
-                places: places,
-                count: count,
-                lo: lo,
-                hi: hi,
-            },
-            firings: Firings {
-                live: live,
-                transitions: transitions,
-                keys: keys,
-                moved: moved,
-            },
-            movers: movers,
-            given: given,
-        },
+        held,
         tally: counts,
     }
 }

@@ -54,38 +54,37 @@ pub struct Counted {
 fn record_with(h: Held) -> Record
     ensures { result ≡ record_with h }
 {
-    let m = h.marking;
-    let f = h.firings;
-    let movers = h.movers;
-    let given = h.given;
     Record {
-        marking: m,
-        firings: f,
-        movers: movers,
-        given: given,
+        marking: h.marking,
+        firings: h.firings,
+        movers: h.movers,
+        given: h.given,
     }
 }
 
 impl Record {
+    // What the record holds.
+    pub fn held(self) -> Held
+        ensures { record_with result ≡ self }
+    {
+        Held {
+            marking: self.marking,
+            firings: self.firings,
+            movers: self.movers,
+            given: self.given,
+        }
+    }
+
     // The first of 1 to 10 that holds; 0 where none does. Every call on a record asks for it first.
     pub fn refusal_on(self, sheet: &[u8]) -> u8
         ensures value { result ≡ first (record_checks sheet.now self []) }
         ensures sound { result ≡ 0 → Sound sheet.now self }
     {
-        let m = self.marking;
-        let f = self.firings;
-        let movers = self.movers;
         record_refusal(
             sheet,
-            f.live,
-            &f.transitions,
-            &f.keys,
-            &f.moved,
-            &m.places,
-            m.count,
-            &m.lo,
-            &m.hi,
-            &movers,
+            &self.marking,
+            &self.firings,
+            &self.movers,
             self.given,
         )
     }
@@ -106,17 +105,11 @@ impl Record {
         requires { Sound sheet.now self }
         ensures { result ≡ perform_of sheet.now self bytes.now }
     {
-        let m = self.marking;
-        let f = self.firings;
-        let movers = self.movers;
-        let done = perform_on(sheet, bytes, m, f, movers, self.given);
-        let answer = done.answer;
-        let key = done.key;
-        let held = done.held;
+        let done = perform_on(sheet, bytes, self.held());
         Outcome {
-            answer: answer,
-            key: key,
-            session: record_with(held),
+            answer: done.answer,
+            key: done.key,
+            session: record_with(done.held),
         }
     }
 

@@ -30,14 +30,9 @@ pub fn run(
     ensures { RunGives (ran_of sheet.now commands.now r t)
         words.old values.old result.session result.tally words.new values.new }
 {
-    let m = r.marking;
-    let f = r.firings;
-    let movers = r.movers;
-    let done = run_on(sheet, commands, t, m, f, movers, r.given, words, values);
-    let held = done.held;
-    let counts = done.tally;
+    let done = run_on(sheet, commands, t, r.held(), words, values);
     Ran {
-        session: record_with(held),
-        tally: counts,
+        session: record_with(done.held),
+        tally: done.tally,
     }
 }

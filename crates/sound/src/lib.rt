@@ -8,86 +8,60 @@ ghost use Rattle.net.specs.Checks.{clear, first};
 ghost use Rattle.format.specs.Parts.{bases_of};
 ghost use Rattle.sheet.specs.Checks.{sheet_checks};
 ghost use Rattle.marking.specs.Form.{laid};
-ghost use Rattle.marking.specs.Held.{holding};
-ghost use Rattle.firings.specs.Lines.{lying};
 ghost use Rattle.sound.specs.Soundness.{runs_in, LaidOut, checks_in, Kept};
 
-use firings::{firings_in_form, keys_climb, last_key};
+use firings::Firings;
 use format::base_count;
+use marking::Marking;
 use marking_form::in_form;
 use movers::table::fits;
-use net::{Base, Key, MAX_BASES, MAX_BONDS, MAX_LIVE, Place};
+use net::{Key, MAX_BASES, MAX_LIVE};
 use replaying::runs_to;
 use sheet::check_sheet;
 
-// Whether what a record holds, the highest key given aside, is sound for the sheet; where it is, its arrays are laid out as what it
+// Whether what a record holds, the highest key given aside, is sound for the sheet; where it is, it is laid out as what it
 // holds is. `record_refusal` has checked the sheet.
-fn is_sound<'a>(
-    sheet: &[u8],
-    live: usize,
-    transitions: &'a [u8; MAX_LIVE],
-    keys: &'a [u16; MAX_LIVE],
-    moved: &'a [u64; MAX_LIVE],
-    places: &'a [Place; MAX_BASES],
-    count: usize,
-    lo: &'a [Base; MAX_BONDS],
-    hi: &'a [Base; MAX_BONDS],
-) -> bool
+fn is_sound(sheet: &[u8], m: &Marking, f: &Firings) -> bool
     requires { clear (sheet_checks sheet.now) ≡ true }
-    ensures value { result ≡ runs_in sheet.now (holding places.now count lo.now hi.now)
-        (lying live transitions.now keys.now moved.now) }
-    ensures laid_out { result ≡ true → LaidOut (bases_of sheet.now)
-        (holding places.now count lo.now hi.now)
-        (lying live transitions.now keys.now moved.now) }
+    ensures value { result ≡ runs_in sheet.now m.now f.now }
+    ensures laid_out { result ≡ true → LaidOut (bases_of sheet.now) m.now f.now }
 {
     let n = base_count(sheet) as usize;
-    if MAX_LIVE < live {
+    if MAX_LIVE < f.live {
         return false;
     }
-    let formed = in_form(n, places, count, lo, hi);
-    let listed = firings_in_form(n, live, transitions, keys, moved);
-    let rising = keys_climb(keys, live);
+    let formed = in_form(n, m);
+    let listed = f.in_form(n);
+    let rising = f.keys_climb();
     if !(formed & (listed & rising)) {
         return false;
     }
-    runs_to(sheet, live, transitions, keys, moved, places, count, lo, hi)
+    runs_to(sheet, f, m)
 }
 
 // The first of 1 to 10 that holds, of any sheet and of what any record holds; 0 where none does. Every call on a record asks
 // for it first.
-pub fn record_refusal<'a>(
+pub fn record_refusal(
     sheet: &[u8],
-    live: usize,
-    transitions: &'a [u8; MAX_LIVE],
-    keys: &'a [u16; MAX_LIVE],
-    moved: &'a [u64; MAX_LIVE],
-    places: &'a [Place; MAX_BASES],
-    count: usize,
-    lo: &'a [Base; MAX_BONDS],
-    hi: &'a [Base; MAX_BONDS],
-    movers: &'a [u16; MAX_BASES],
+    m: &Marking,
+    f: &Firings,
+    movers: &[u16; MAX_BASES],
     given: Key,
 ) -> u8
-    ensures value { result ≡ first (checks_in sheet.now (holding places.now count lo.now hi.now)
-        (lying live transitions.now keys.now moved.now) given movers.now []) }
-    ensures kept { result ≡ 0 → Kept sheet.now (holding places.now count lo.now hi.now)
-        (lying live transitions.now keys.now moved.now) given movers.now }
+    ensures value { result ≡ first (checks_in sheet.now m.now f.now given movers.now []) }
+    ensures kept { result ≡ 0 → Kept sheet.now m.now f.now given movers.now }
 {
     let checked = check_sheet(sheet);
     let refusal = checked.number();
     if refusal != 0 {
         return refusal;
     }
-    if !is_sound(sheet, live, transitions, keys, moved, places, count, lo, hi) {
+    if !is_sound(sheet, m, f) {
         return 10;
     }
-    let last = last_key(keys, live);
+    let last = f.last_key();
     if given.0 < last.0 {
         return 10;
     }
-    if fits(movers, keys, moved, live) {
-        0
-    } else {
-        10
-    }
+    if fits(movers, f) { 0 } else { 10 }
 }

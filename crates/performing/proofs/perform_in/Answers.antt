@@ -1,14 +1,8 @@
 -- `performing::perform_in`: the answers to the goals that the check leaves.
--- what was lent
 use borrow.Author.Tests.{lt-ltb, le-ltb}
 use mathlib.Core.Path.{refl, ap, sym, ◌∙◌}
 use Rattle.format.specs.Parts.{bases_of}
-use Rattle.net.specs.Journal.{Journal}
 use Rattle.format.specs.NetOf.{net_of}
-use Rattle.marking.specs.Held.{holding}
-use Rattle.marking.specs.declared.Marking.{Marking}
-use Rattle.firings.specs.Lines.{lying}
-use Rattle.firings.specs.declared.Firings.{Firings}
 use Rattle.sound.specs.Soundness.{journal_in}
 use Rattle.commands.specs.Doing.{undo_act}
 use Rattle.acting.proofs.Refuses.{did-by, refused_did}
@@ -16,53 +10,43 @@ use Rattle.sound.proofs.Given.{last-given}
 use Rattle.sound.proofs.Holds.{held, live-few}
 use Rattle.performing.proofs.Performing.{cut, unread, given as commanded}
 use Rattle.performing.proofs.perform_in.Goals as goal
-use Rattle.performing.proofs.perform_in.Goals.{Start}
-
-abbrev marking : Start → Marking
-marking s = holding s.args.places.now s.args.count s.args.lo.now s.args.hi.now
-
-abbrev firings : Start → Firings
-firings s = lying s.args.live s.args.transitions.now s.args.keys.now s.args.moved.now
-
-abbrev journal : Start → Journal
-journal s = journal_in (bases_of s.args.sheet.now) (marking s) (firings s) s.args.given
 
 pub returns-then-bytes-lt3 : goal.returns-then-bytes-lt3
 returns-then-bytes-lt3 c =
     rw c.refused_in.ensures record {
-      did = refused_did c.args.sheet.now (marking (goal.at.returns-then-bytes-lt3 c).Start) (firings (goal.at.returns-then-bytes-lt3 c).Start) c.args.given c.args.movers.now c.requires.0 _ 21 (cut (net_of c.args.sheet.now) (journal (goal.at.returns-then-bytes-lt3 c).Start) c.args.bytes.now (lt-ltb _ _ c.if-bytes-lt3.true)) _ refl;
+      did = refused_did c.args.sheet.now c.args.m.now c.args.f.now c.args.given c.args.movers.now c.requires.0 _ 21 (cut (net_of c.args.sheet.now) (journal_in (bases_of c.args.sheet.now) c.args.m.now c.args.f.now c.args.given) c.args.bytes.now (lt-ltb _ _ c.if-bytes-lt3.true)) _ refl;
       labelled = c.requires.1;
     }
 
 pub returns-in_default : goal.returns-in_default
 returns-in_default c =
     rw c.refused_in-in_default.ensures record {
-      did = refused_did c.args.sheet.now (marking (goal.at.returns-in_default c).Start) (firings (goal.at.returns-in_default c).Start) c.args.given c.args.movers.now c.requires.0 _ 11 (unread (net_of c.args.sheet.now) (journal (goal.at.returns-in_default c).Start) c.args.bytes.now (le-ltb _ _ c.if-bytes-lt3.false) _ c.in_default.is c.decode-read.ensures) _ refl;
+      did = refused_did c.args.sheet.now c.args.m.now c.args.f.now c.args.given c.args.movers.now c.requires.0 _ 11 (unread (net_of c.args.sheet.now) (journal_in (bases_of c.args.sheet.now) c.args.m.now c.args.f.now c.args.given) c.args.bytes.now (le-ltb _ _ c.if-bytes-lt3.false) _ c.in_default.is c.decode.ensures) _ refl;
       labelled = c.requires.1;
     }
 
 pub last_key-k-requires : goal.last_key-k-requires
-last_key-k-requires c = live-few c.args.sheet.now (marking (goal.at.last_key-k-requires c).Start) (firings (goal.at.last_key-k-requires c).Start) c.args.given c.requires.0.passed
+last_key-k-requires c = live-few c.args.sheet.now c.args.m.now c.args.f.now c.args.given c.requires.0.passed
 
 pub returns-in-Fire : goal.returns-in-Fire
 returns-in-Fire c =
     record {
-      did = did-by _ _ (commanded (net_of c.args.sheet.now) (journal (goal.at.returns-in-Fire c).Start) c.args.bytes.now (le-ltb _ _ c.if-bytes-lt3.false) _ _ _ c.in-Given.is c.decode-read.ensures c.in-Fire.is) _ _ _ _ c.fire_in.ensures.did;
+      did = did-by _ _ (commanded (net_of c.args.sheet.now) (journal_in (bases_of c.args.sheet.now) c.args.m.now c.args.f.now c.args.given) c.args.bytes.now (le-ltb _ _ c.if-bytes-lt3.false) _ _ _ c.in-Some.is c.decode.ensures c.in-Fire.is) _ _ _ _ c.fire_in.ensures.did;
       labelled = c.fire_in.ensures.labelled;
     }
 
 pub returns-in-Undo : goal.returns-in-Undo
 returns-in-Undo c =
     record {
-      did = did-by _ _ (commanded (net_of c.args.sheet.now) (journal (goal.at.returns-in-Undo c).Start) c.args.bytes.now (le-ltb _ _ c.if-bytes-lt3.false) _ _ _ c.in-Given.is c.decode-read.ensures c.in-Undo.is) _ _ _ _ c.undo_in.ensures.did;
+      did = did-by _ _ (commanded (net_of c.args.sheet.now) (journal_in (bases_of c.args.sheet.now) c.args.m.now c.args.f.now c.args.given) c.args.bytes.now (le-ltb _ _ c.if-bytes-lt3.false) _ _ _ c.in-Some.is c.decode.ensures c.in-Undo.is) _ _ _ _ c.undo_in.ensures.did;
       labelled = c.undo_in.ensures.labelled;
     }
 
 pub returns-in-UndoLast : goal.returns-in-UndoLast
 returns-in-UndoLast c =
-    let last = c.last_key-k.ensures ∙ last-given (bases_of c.args.sheet.now) (firings (goal.at.returns-in-UndoLast c).Start) (held c.args.sheet.now (marking (goal.at.returns-in-UndoLast c).Start) (firings (goal.at.returns-in-UndoLast c).Start) c.args.given c.requires.0.passed).up in
-    let same = commanded (net_of c.args.sheet.now) (journal (goal.at.returns-in-UndoLast c).Start) c.args.bytes.now (le-ltb _ _ c.if-bytes-lt3.false) _ _ _ c.in-Given.is c.decode-read.ensures c.in-UndoLast.is in
+    let last = c.last_key-k.ensures ∙ last-given (bases_of c.args.sheet.now) c.args.f.now (held c.args.sheet.now c.args.m.now c.args.f.now c.args.given c.requires.0.passed).up in
+    let same = commanded (net_of c.args.sheet.now) (journal_in (bases_of c.args.sheet.now) c.args.m.now c.args.f.now c.args.given) c.args.bytes.now (le-ltb _ _ c.if-bytes-lt3.false) _ _ _ c.in-Some.is c.decode.ensures c.in-UndoLast.is in
     record {
-      did = did-by _ _ (same ∙ ap (undo_act (net_of c.args.sheet.now) (journal (goal.at.returns-in-UndoLast c).Start)) (sym last)) _ _ _ _ c.undo_in-in-UndoLast.ensures.did;
+      did = did-by _ _ (same ∙ ap (undo_act (net_of c.args.sheet.now) (journal_in (bases_of c.args.sheet.now) c.args.m.now c.args.f.now c.args.given)) (sym last)) _ _ _ _ c.undo_in-in-UndoLast.ensures.did;
       labelled = c.undo_in-in-UndoLast.ensures.labelled;
     }

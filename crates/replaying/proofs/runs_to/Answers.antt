@@ -1,7 +1,5 @@
 -- `replaying::runs_to`: the answers to the goals that the check leaves.
 -- the function's start, the marking that the run begins with, the lines, and the end that is looked for
-use borrow.Author.Rules.{rules}
-use borrow.Author.Tests.{not-true, not-false}
 use native.Mathlib.Omega.{arith}
 use mathlib.Core.Path.{◌≡◌, sym, ◌∙◌, ap, subst}
 use Rattle.net.specs.Net as Net
@@ -11,12 +9,11 @@ use Rattle.format.specs.Parts.{bases_of}
 use Rattle.format.specs.NetOf.{net_of}
 use Rattle.marking.specs.declared.Marking.{Marking}
 use Rattle.marking.specs.Form.{marking_of}
-use Rattle.marking.specs.Held.{holding}
-use Rattle.firings.specs.Lines.{lying, lines_in}
+use Rattle.firings.specs.Lines.{lines_in}
 use Rattle.steps.specs.Placed.{Placed}
 use Rattle.steps.proofs.Readiness.{few-bases}
 use mathlib.Core.List.{List}
-use Rattle.replaying.proofs.Lines.{placed-fits, placed-ends, run-refused, run-compared}
+use Rattle.replaying.proofs.Lines.{placed-room, placed-ends, run-refused, run-compared}
 use Rattle.replaying.proofs.Starts.{start-placed, start_fits, from_start}
 use Rattle.replaying.proofs.runs_to.Goals as goal
 use Rattle.replaying.proofs.runs_to.Goals.{After-start_marking-begin}
@@ -25,10 +22,10 @@ begin-placed : (b : After-start_marking-begin) → Placed b.args.sheet.now b.sta
 begin-placed b = subst (λ (m : Marking). Placed b.args.sheet.now m) (sym b.start_marking-begin.ensures) (start-placed b.args.sheet.now b.requires.sheet_value.0)
 
 abbrev lines : After-start_marking-begin → List LiveLine
-lines b = lines_in (bases_of b.args.sheet.now) (lying b.args.live b.args.transitions.now b.args.keys.now b.args.moved.now)
+lines b = lines_in (bases_of b.args.sheet.now) b.args.f.now
 
 abbrev sought : After-start_marking-begin → Net.Marking
-sought b = marking_of (bases_of b.args.sheet.now) (holding b.args.places.now b.args.count b.args.lo.now b.args.hi.now)
+sought b = marking_of (bases_of b.args.sheet.now) b.args.m.now
 
 -- the run of the contract is the run from the marking that was read
 from-begin : (b : After-start_marking-begin) → replays (net_of b.args.sheet.now) (marking_of (bases_of b.args.sheet.now) b.start_marking-begin.result) (lines b) (sought b)
@@ -40,32 +37,32 @@ from-begin b =
 pub start_marking-begin-requires : goal.start_marking-begin-requires
 start_marking-begin-requires c = start_fits _ c.requires.sheet_value.0
 
-pub label_in-requires : goal.label_in-requires
-label_in-requires c =
-    let (lo, hi) = placed-fits c.args.sheet.now c.start_marking-begin.result (begin-placed (goal.at.label_in-requires c).After-start_marking-begin) in
+pub of_marking-labels-requires : goal.of_marking-labels-requires
+of_marking-labels-requires c =
+    let P = begin-placed (goal.at.of_marking-labels-requires c).After-start_marking-begin in
     record {
-      l_len = (search rules, lo, hi);
-      by_index = placed-ends c.args.sheet.now c.start_marking-begin.result (begin-placed (goal.at.label_in-requires c).After-start_marking-begin);
+      count_in_bounds = placed-room c.args.sheet.now c.start_marking-begin.result P;
+      by_index = placed-ends c.args.sheet.now c.start_marking-begin.result P;
     }
 
-pub replay-end-requires : goal.replay-end-requires
-replay-end-requires c =
+pub replay-requires : goal.replay-requires
+replay-requires c =
     record {
-      placed = (begin-placed (goal.at.replay-end-requires c).After-start_marking-begin, c.label_in.ensures, c.requires.sheet_value.1);
+      placed = (begin-placed (goal.at.replay-requires c).After-start_marking-begin, c.of_marking-labels.ensures, c.requires.sheet_value.1);
       by_index = c.requires.by_index;
     }
 
-pub returns-then-not-end : goal.returns-then-not-end
-returns-then-not-end c = run-refused _ c.replay-end.result.accepted _ (c.replay-end.ensures.z_value (sought (goal.at.returns-then-not-end c).After-start_marking-begin)) (not-true _ c.if-not-end.true) ∙ from-begin (goal.at.returns-then-not-end c).After-start_marking-begin
+pub returns-then-not-replay : goal.returns-then-not-replay
+returns-then-not-replay c = run-refused _ c.replay.result _ (c.replay.ensures.z_value (sought (goal.at.returns-then-not-replay c).After-start_marking-begin)) c.if-not-replay.true ∙ from-begin (goal.at.returns-then-not-replay c).After-start_marking-begin
 
 pub same_marking-requires : goal.same_marking-requires
 same_marking-requires c =
     let e = c.base_count-n.ensures in
     let h = few-bases c.args.sheet.now c.start_marking-begin.result (begin-placed (goal.at.same_marking-requires c).After-start_marking-begin) in
-    (omega arith, c.replay-end.ensures.count_le_max_bonds (not-false _ c.if-not-end.false), c.requires.sheet_value.2)
+    (omega arith, c.replay.ensures.count_le_max_bonds c.if-not-replay.false, c.requires.sheet_value.2)
 
 pub returns : goal.returns
 returns c =
-    run-compared (bases_of c.args.sheet.now) c.base_count-n.result (holding c.replay-end.new.places c.replay-end.result.count c.replay-end.new.lo c.replay-end.new.hi) (holding c.args.places.now c.args.count c.args.lo.now c.args.hi.now) _ c.replay-end.result.accepted _
-    c.base_count-n.ensures (c.replay-end.ensures.z_value (sought (goal.at.returns c).After-start_marking-begin)) (not-false _ c.if-not-end.false) c.same_marking.ensures
+    run-compared (bases_of c.args.sheet.now) c.base_count-n.result c.replay.new.m c.args.m.now _ c.replay.result _
+    c.base_count-n.ensures (c.replay.ensures.z_value (sought (goal.at.returns c).After-start_marking-begin)) c.if-not-replay.false c.same_marking.ensures
     ∙ from-begin (goal.at.returns c).After-start_marking-begin

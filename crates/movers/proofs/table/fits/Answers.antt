@@ -5,7 +5,8 @@ use lib.Dec.{eqb}
 use Rattle.net.specs.Limits.{max_bases}
 use Rattle.net.specs.Tests.{same_list}
 use Rattle.firings.specs.Lines.{lines_in}
-use Rattle.movers.proofs.Marks.{movers-all, pointwise-same}
+use Rattle.marking_form.proofs.Same.{pointwise-same}
+use Rattle.movers.proofs.Marks.{movers-all}
 use Rattle.movers.proofs.table.fits.Goals as goal
 
 pub returns : goal.returns
