@@ -1,4 +1,4 @@
--- The lamps of the live firings, by the arrays that hold them; and that lines alike have the same lamps.
+-- The lamps of the live firings; and that lines alike have the same lamps.
 -- Assumes keys that ascend.
 use mathlib.Core.Path.{◌≡◌, refl, sym, ◌∙◌, ap, ap₂}
 use mathlib.Core.Bool.{Bool, true, false, ◌&&◌}
@@ -12,17 +12,18 @@ use Rattle.net.specs.Limits.{max_bases, max_live}
 use Rattle.net.specs.Tests.{table}
 use Rattle.net.specs.Journal.{LiveLine, no_line, line_of}
 use Rattle.net.specs.declared.Key.{Key}
-use Rattle.net.proofs.Tables.{length-table, get_d-table}
+use Rattle.firings.specs.declared.Firings.{Firings}
+use Rattle.net.proofs.Tables.{get_d-table}
 use Rattle.net.proofs.Firsts.{first-inside, first-outside, first_holds}
 use Rattle.net.proofs.Keys.{Up, same_key_lem, line-live, own_line}
-use Rattle.firings.specs.Lines.{lying, firing_at, as_line, lines_in}
+use Rattle.firings.specs.Lines.{lines_in}
 use Rattle.firings.specs.Search.{keys_in, index_of}
 use Rattle.firings.specs.Form.{climbs}
 use Rattle.firings.proofs.Keys.{keys-up, live-keys}
 use Rattle.firings.proofs.Laid.{mem-at}
 use Rattle.words.specs.Sets.{set_of}
 use Rattle.movers.specs.Lamp.{key_at_all, on_top, lamp}
-use Rattle.firings.proofs.Lines.{SameLines, same_length, same_at}
+use Rattle.firings.proofs.Lines.{SameLines, same_length, same_at, lines-length, line-at}
 use Rattle.movers.proofs.Alike.{lamp-alike}
 use Rattle.lamps.specs.Lamps.{flag_at, lit_of, shown}
 use Rattle.net.specs.declared.Verdict.TheVariants.{Accepted}
@@ -44,42 +45,36 @@ module _ (t : List ℕ) (ls ks : List LiveLine) (h : SameLines ls ks) where
   pub shown-alike : shown t ls ≡ shown t ks
   shown-alike = λ x. record { answer = Accepted; count = same_length ls ks h x; lit = table max_live (λ i. flag-alike i x) }
 
--- ---- of arrays
+-- ---- of live firings
 
-module _ (live : ℕ) (ts keys ms : List ℕ) where
-  abbrev pub lines : List LiveLine
-  lines = lines_in max_bases (lying live ts keys ms)
-
-  long : length lines ≡ live
-  long = length-table live (λ x. as_line max_bases (firing_at ts keys ms x))
-
-  line-at : (i : ℕ) → i < live → get_or lines i no_line ≡ as_line max_bases (firing_at ts keys ms i)
-  line-at i h = get_d-table live (λ x. as_line max_bases (firing_at ts keys ms x)) i no_line h
+module _ (f : Firings) where
+  abbrev lines : List LiveLine
+  lines = lines_in max_bases f
 
   -- the flag of the firing at i
-  pub flag-live : climbs 0 (keys_in live keys) ≡ true → (t : List ℕ) (i : ℕ) → i < live → key_at_all max_bases t (set_of max_bases (get_or ms i 0)) (get_or keys i 0) ≡ flag_at t lines i
+  pub flag-live : climbs 0 (keys_in f.live f.keys) ≡ true → (t : List ℕ) (i : ℕ) → i < f.live → key_at_all max_bases t (set_of max_bases (get_or f.moved i 0)) (get_or f.keys i 0) ≡ flag_at t lines i
   flag-live c t i h =
-      let e = long in
-      ap (on_top max_bases t) (sym (line-at i h)) ∙ own-lamp t lines (keys-up max_bases (lying live ts keys ms) c) i (omega arith)
+      let e = lines-length max_bases f in
+      ap (on_top max_bases t) (sym (line-at max_bases f i h)) ∙ own-lamp t lines (keys-up max_bases f c) i (omega arith)
       ∙ sym (ap (λ (b : Bool). b && lamp max_bases t lines (get_or lines i no_line).key) (lt-ltb i (length lines) (omega arith)))
 
-  pub flag-after : (t : List ℕ) (i : ℕ) → live ≤ i → false ≡ flag_at t lines i
-  flag-after t i h = let e = long in sym (ap (λ (b : Bool). b && lamp max_bases t lines (get_or lines i no_line).key) (le-ltb i (length lines) (omega arith)))
+  pub flag-after : (t : List ℕ) (i : ℕ) → f.live ≤ i → false ≡ flag_at t lines i
+  flag-after t i h = let e = lines-length max_bases f in sym (ap (λ (b : Bool). b && lamp max_bases t lines (get_or lines i no_line).key) (le-ltb i (length lines) (omega arith)))
 
-  pub all_shown : (t : List ℕ) (lit : List Bool) → lit ≡ lit_of t lines → record { answer = Accepted; count = live; lit = lit } ≡ shown t lines
-  all_shown t lit e = λ x. record { answer = Accepted; count = sym long x; lit = e x }
+  pub all_shown : (t : List ℕ) (lit : List Bool) → lit ≡ lit_of t lines → record { answer = Accepted; count = f.live; lit = lit } ≡ shown t lines
+  all_shown t lit e = λ x. record { answer = Accepted; count = sym (lines-length max_bases f) x; lit = e x }
 
   -- the place of a key
-  module _ (k : Key) (i : ℕ) (at : i ≡ index_of k (keys_in live keys)) where
-    pub lamp-found : i < live → (t : List ℕ) → flag_at t lines i ≡ lamp max_bases t lines k
+  module _ (k : Key) (i : ℕ) (at : i ≡ index_of k (keys_in f.live f.keys)) where
+    pub lamp-found : i < f.live → (t : List ℕ) → flag_at t lines i ≡ lamp max_bases t lines k
     lamp-found h t =
-        let e = long in
-        let is : eqb (get_or (keys_in live keys) i 0) k.0 ≡ true =
-        ap (λ (y : ℕ). eqb (get_or (keys_in live keys) y 0) k.0) at ∙ first_holds (λ x. eqb x k.0) (keys_in live keys) 0 (first-inside (λ x. eqb x k.0) live (λ j. get_or keys j 0) i at h) in
+        let e = lines-length max_bases f in
+        let is : eqb (get_or (keys_in f.live f.keys) i 0) k.0 ≡ true =
+        ap (λ (y : ℕ). eqb (get_or (keys_in f.live f.keys) y 0) k.0) at ∙ first_holds (λ x. eqb x k.0) (keys_in f.live f.keys) 0 (first-inside (λ x. eqb x k.0) f.live (λ j. get_or f.keys j 0) i at h) in
         let same : (get_or lines i no_line).key ≡ k =
-        ap (λ (l : LiveLine). l.key) (line-at i h) ∙ same_key_lem _ k (ap (λ (y : ℕ). eqb y k.0) (sym (get_d-table live (λ j. get_or keys j 0) i 0 h)) ∙ is) in
+        ap (λ (l : LiveLine). l.key) (line-at max_bases f i h) ∙ same_key_lem _ k (ap (λ (y : ℕ). eqb y k.0) (sym (get_d-table f.live (λ j. get_or f.keys j 0) i 0 h)) ∙ is) in
         ap₂ ◌&&◌ (lt-ltb i (length lines) (omega arith)) (ap (lamp max_bases t lines) same)
 
-    pub lamp-dead : live ≤ i → (t : List ℕ) → false ≡ lamp max_bases t lines k
+    pub lamp-dead : f.live ≤ i → (t : List ℕ) → false ≡ lamp max_bases t lines k
     lamp-dead h t = sym (ap (λ (b : Bool). b && on_top max_bases t (line_of k lines))
-        (sym (live-keys max_bases (lying live ts keys ms) k) ∙ first-outside (λ x. eqb x k.0) live (λ j. get_or keys j 0) i at h))
+        (sym (live-keys max_bases f k) ∙ first-outside (λ x. eqb x k.0) f.live (λ j. get_or f.keys j 0) i at h))

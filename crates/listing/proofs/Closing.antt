@@ -3,11 +3,11 @@
 use mathlib.Core.Path.{◌≡◌, refl, sym, ◌∙◌, ap}
 use mathlib.Core.Bool.{Bool, true, false}
 use mathlib.Core.List.{List, [], ◌∷◌, ◌++◌}
-use Prim.Native.Nat.{ℕ, zero, suc, ◌+◌, ◌-◌, ◌<◌, ◌≤◌}
+use Prim.Native.Nat.{ℕ, zero, suc, ◌+◌, ◌-◌, ◌<◌}
 use native.Mathlib.Omega.{arith}
 use native.Mathlib.Numerals.{add-one}
 use lib.Dec.{ltb}
-use lib.ListN.{length, get_or, take, drop, length-append, length-drop}
+use lib.ListN.{length, get_or, take, drop}
 use borrow.Author.Tests.{ltb-true, ltb-false, lt-ltb, le-ltb}
 use Rattle.causal.proofs.Tests.{test}
 use Rattle.net.specs.Limits.{max_bases}
@@ -17,7 +17,9 @@ use Rattle.net.proofs.Tables.{length-table, get_d-table, table-cong}
 use Rattle.words.specs.Sets.{set_of}
 use Rattle.marking.specs.Shift.{gap}
 use Rattle.marking.proofs.Shifts.{gap_below, gap_from}
-use Rattle.firings.specs.Lines.{lying, firing_at, as_line, lines_in, closed, closed_up}
+use Rattle.firings.specs.Lines.{lines_in, closed, closed_up}
+use Rattle.firings.specs.declared.Firings.{Firings}
+use Rattle.firings.proofs.Lines.{line_at}
 use Rattle.listing.specs.First.{without_at}
 
 -- one further in a table with a gap
@@ -51,26 +53,18 @@ front (a ∷ xs) ys (suc x) h = front xs ys x (omega arith)
 closed_at : (n i x : ℕ) (l : List ℕ) → x < n - 1 → get_or (closed n i l) x 0 ≡ gap i (λ j. get_or l j 0) x
 closed_at n i x l h = front (table (n - 1) (gap i (λ j. get_or l j 0))) _ x (rw (length-table (n - 1) (gap i (λ j. get_or l j 0))) h) ∙ get_d-table (n - 1) (gap i (λ j. get_or l j 0)) x 0 h
 
-module _ (live i : ℕ) (ts keys ms : List ℕ) (h : i < live) where
-  pub lines-without : lines_in max_bases (closed_up i (lying live ts keys ms)) ≡ without_at i (lines_in max_bases (lying live ts keys ms))
-  lines-without = table-cong (live - 1) (λ x. as_line max_bases (firing_at (closed live i ts) (closed live i keys) (closed live i ms) x)) (gap i at) same ∙ gap-table live i at h
-    where
-      at : ℕ → LiveLine
-      at x = as_line max_bases (firing_at ts keys ms x)
+pub lines-without : (f : Firings) (i : ℕ) → i < f.live → lines_in max_bases (closed_up i f) ≡ without_at i (lines_in max_bases f)
+lines-without f i h = table-cong (f.live - 1) (line_at max_bases (closed_up i f)) (gap i at) same ∙ gap-table f.live i at h
+  where
+    at : ℕ → LiveLine
+    at = line_at max_bases f
 
-      made : ℕ → ℕ → ℕ → LiveLine
-      made t k m = record { transition = transition t; key = key k; moved = set_of max_bases m }
+    made : ℕ → ℕ → ℕ → LiveLine
+    made t k m = record { transition = transition t; key = key k; moved = set_of max_bases m }
 
-      same : (x : ℕ) → x < live - 1 → as_line max_bases (firing_at (closed live i ts) (closed live i keys) (closed live i ms) x) ≡ gap i at x
-      same x k = (λ a. made (closed_at live i x ts k a) (closed_at live i x keys k a) (closed_at live i x ms k a)) ∙ go (ltb x i)
-        where
-          go : (b : Bool) → made (pick b (get_or ts x 0) (get_or ts (x + 1) 0)) (pick b (get_or keys x 0) (get_or keys (x + 1) 0)) (pick b (get_or ms x 0) (get_or ms (x + 1) 0)) ≡ pick b (at x) (at (x + 1))
-          go true = refl
-          go false = refl
-
--- it is as long as before
-pub closed-long : (n i : ℕ) (l : List ℕ) → i < n → n ≤ length l → length (closed n i l) ≡ length l
-closed-long n i l h k =
-    let a : length (table (n - 1) (gap i (λ j. get_or l j 0))) ≡ n - 1 = length-table (n - 1) (gap i (λ j. get_or l j 0)) in
-    let b : length (drop n l) ≡ length l - n = length-drop n l in
-    length-append (table (n - 1) (gap i (λ j. get_or l j 0))) (0 ∷ drop n l) ∙ (let e : length (table (n - 1) (gap i (λ j. get_or l j 0))) + suc (length (drop n l)) ≡ length l = omega arith in e)
+    same : (x : ℕ) → x < f.live - 1 → line_at max_bases (closed_up i f) x ≡ gap i at x
+    same x k = (λ a. made (closed_at f.live i x f.transitions k a) (closed_at f.live i x f.keys k a) (closed_at f.live i x f.moved k a)) ∙ go (ltb x i)
+      where
+        go : (b : Bool) → made (pick b (get_or f.transitions x 0) (get_or f.transitions (x + 1) 0)) (pick b (get_or f.keys x 0) (get_or f.keys (x + 1) 0)) (pick b (get_or f.moved x 0) (get_or f.moved (x + 1) 0)) ≡ pick b (at x) (at (x + 1))
+        go true = refl
+        go false = refl

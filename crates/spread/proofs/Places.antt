@@ -1,4 +1,4 @@
--- Where a firing spreads: over one line more, as the loop over the arrays adds it; by the place of its key; and that sets of more
+-- Where a firing spreads: over one line more, as the loop adds it; by the place of its key; and that sets of more
 -- flags, none of them set, spread alike. Assumes nothing.
 use mathlib.Core.Path.{◌≡◌, refl, sym, ◌∙◌, ap}
 use mathlib.Core.Bool.{Bool, true, false, ◌||◌}
@@ -6,7 +6,8 @@ use mathlib.Core.List.{List, [], ◌∷◌}
 use Prim.Native.Nat.{ℕ, zero, suc, ◌+◌, ◌<◌, ◌≤◌}
 use native.Mathlib.Omega.{arith}
 use native.Mathlib.Numerals.{add-one}
-use lib.ListN.{length, get_or, drop, drop_of_length-le}
+use lib.ListN.{length, get_or, take, drop, drop_of_length-le}
+use Rattle.std.proofs.lemmas.List.{get_or-take, get_or-drop, length-drop, length-take-le}
 use lib.Seq.{drop-cons}
 use Rattle.net.specs.Limits.{max_bases}
 use Rattle.net.specs.Tests.{pick, table}
@@ -15,10 +16,11 @@ use Rattle.net.specs.Journal.{LiveLine, no_line, same_key, line_keys, is_live, c
 use Rattle.net.specs.declared.Key.{Key}
 use Rattle.net.proofs.Tables.{table-cong}
 use Rattle.words.specs.Sets.{set_of, either}
-use Rattle.firings.specs.Lines.{lying}
+use Rattle.firings.specs.Lines.{lines_in}
+use Rattle.firings.specs.declared.Firings.{Firings}
 use Rattle.firings.specs.Search.{keys_in, index_of}
 use Rattle.firings.proofs.Search.{keys-of-lines}
-use Rattle.firings.proofs.Lines.{lines, lines-length, moved_at, Alike, common-alike, either-alike, SameLine}
+use Rattle.firings.proofs.Lines.{lines-length, moved_at, Alike, common-alike, either-alike, SameLine}
 use Rattle.net.specs.declared.Verdict.TheVariants.{Accepted}
 use Rattle.spread.specs.Depends.{spread, spread_from, spread_of}
 use Rattle.spread.specs.Spread.{told, not_told, spread_among}
@@ -33,26 +35,33 @@ spread-next m l ls = go (common m l.moved)
     go true = refl
     go false = refl
 
-module _ (live : ℕ) (ts keys ms : List ℕ) where
+module _ (f : Firings) where
   abbrev ls : List LiveLine
-  ls = lines live ts keys ms
+  ls = lines_in max_bases f
 
   -- the loop over the lines after the one at i: it begins, goes on and ends
-  pub from_one : (i : ℕ) → i < live → spread (set_of max_bases (get_or ms i 0)) (drop (i + 1) ls) ≡ spread_from i ls
-  from_one i h = λ x. spread (sym (moved_at max_bases (lying live ts keys ms) i h) x) (drop (add-one i x) ls)
+  pub from_one : (i : ℕ) → i < f.live → spread (set_of max_bases (get_or f.moved i 0)) (drop (i + 1) ls) ≡ spread_from i ls
+  from_one i h = λ x. spread (sym (moved_at max_bases f i h) x) (drop (add-one i x) ls)
 
-  pub from_more : (j : ℕ) → j < live → (m r s : List Bool) → spread m (drop j ls) ≡ s
-      → r ≡ pick (common m (set_of max_bases (get_or ms j 0))) (either m (set_of max_bases (get_or ms j 0))) m → spread r (drop (j + 1) ls) ≡ s
+  pub from_more : (j : ℕ) → j < f.live → (m r s : List Bool) → spread m (drop j ls) ≡ s
+      → r ≡ pick (common m (set_of max_bases (get_or f.moved j 0))) (either m (set_of max_bases (get_or f.moved j 0))) m → spread r (drop (j + 1) ls) ≡ s
   from_more j h m r s e q =
-      let size : j < length ls = rw (lines-length max_bases (lying live ts keys ms)) h in
-      let at : set_of max_bases (get_or ms j 0) ≡ (get_or ls j no_line).moved = sym (moved_at max_bases (lying live ts keys ms) j h) in
+      let size : j < length ls = rw (lines-length max_bases f) h in
+      let at : set_of max_bases (get_or f.moved j 0) ≡ (get_or ls j no_line).moved = sym (moved_at max_bases f j h) in
       (λ x. spread ((q ∙ ap (λ (n : List Bool). pick (common m n) (either m n) m) at) x) (drop (add-one j x) ls))
       ∙ sym (spread-next m (get_or ls j no_line) (drop (suc j) ls)) ∙ ap (spread m) (sym (drop-cons ls j no_line size)) ∙ e
 
-  pub from_end : (j : ℕ) → live ≤ j → (m s : List Bool) → spread m (drop j ls) ≡ s → m ≡ s
+  pub from_end : (j : ℕ) → f.live ≤ j → (m s : List Bool) → spread m (drop j ls) ≡ s → m ≡ s
   from_end j h m s e =
-      let size : length ls ≤ j = rw (lines-length max_bases (lying live ts keys ms)) h in
+      let size : length ls ≤ j = rw (lines-length max_bases f) h in
       ap (spread m) (sym (drop_of_length-le ls size)) ∙ e
+
+-- those from k on, n of them, read one by one
+pub part-at : (k n x : ℕ) (l : List ℕ) → x < n → get_or (take n (drop k l)) x 0 ≡ get_or l (k + x) 0
+part-at k n x l h = get_or-take n (drop k l) x 0 h ∙ get_or-drop k l x 0
+
+pub part-long : (k n : ℕ) (l : List ℕ) → k + n ≤ length l → length (take n (drop k l)) ≡ n
+part-long k n l h = let e = length-drop k l in length-take-le n (drop k l) (omega arith)
 
 -- ---- by the place of the key
 
@@ -76,23 +85,26 @@ missing k (l ∷ ls) h = go (same_key l.key k) h (missing k ls)
     go true h ih = absurd (let z : ⊥ = omega arith in z)
     go false h ih = ih (omega arith)
 
--- the key's place among the keys of the arrays
-module _ (live : ℕ) (ts keys ms : List ℕ) (k : Key) (i : ℕ) (e : i ≡ index_of k (keys_in live keys)) (x : Spread) where
-  place : i ≡ index_of k (line_keys (lines live ts keys ms))
-  place = e ∙ ap (index_of k) (keys-of-lines max_bases (lying live ts keys ms))
+-- the key's place among the live keys
+module _ (f : Firings) (k : Key) (x : Spread) where
+  abbrev own : List LiveLine
+  own = lines_in max_bases f
 
-  pub told-live : i < live → x ≡ told (spread_from i (lines live ts keys ms)) → x ≡ spread_among k (lines live ts keys ms)
-  told-live h q =
-      let size = lines-length max_bases (lying live ts keys ms) in
-      let at = place in
-      let (a, b) = found k (lines live ts keys ms) (omega arith) in
-      q ∙ ap told (ap (λ (j : ℕ). spread_from j (lines live ts keys ms)) at ∙ sym b) ∙ ap (λ (c : Bool). pick c (told (spread_of k (lines live ts keys ms))) (not_told 19)) (sym a)
+  place : (i : ℕ) → i ≡ index_of k (keys_in f.live f.keys) → i ≡ index_of k (line_keys own)
+  place i e = e ∙ ap (index_of k) (keys-of-lines max_bases f)
 
-  pub told-missing : live ≤ i → x ≡ not_told 19 → x ≡ spread_among k (lines live ts keys ms)
-  told-missing h q =
-      let size = lines-length max_bases (lying live ts keys ms) in
-      let at = place in
-      q ∙ ap (λ (c : Bool). pick c (told (spread_of k (lines live ts keys ms))) (not_told 19)) (sym (missing k (lines live ts keys ms) (omega arith)))
+  pub told-live : (i : ℕ) → i ≡ index_of k (keys_in f.live f.keys) → i < f.live → x ≡ told (spread_from i own) → x ≡ spread_among k own
+  told-live i e h q =
+      let size = lines-length max_bases f in
+      let at = place i e in
+      let (a, b) = found k own (omega arith) in
+      q ∙ ap told (ap (λ (j : ℕ). spread_from j own) at ∙ sym b) ∙ ap (λ (c : Bool). pick c (told (spread_of k own)) (not_told 19)) (sym a)
+
+  pub told-missing : f.live ≡ index_of k (keys_in f.live f.keys) → x ≡ not_told 19 → x ≡ spread_among k own
+  told-missing e q =
+      let size = lines-length max_bases f in
+      let at = place f.live e in
+      q ∙ ap (λ (c : Bool). pick c (told (spread_of k own)) (not_told 19)) (sym (missing k own (omega arith)))
 
 -- ---- lines of other numbers of flags
 

@@ -1,20 +1,21 @@
-// How far one firing spreads (document 02, T-08), from the arrays that hold the live firings.
+// How far one firing spreads (document 02, T-08): over those after it that share a base, one after the other.
 // The session's call checks the sheet and the record first.
 #![tactic(auto)]
 
-ghost use Rattle.std.specs.Prelude.{◌≡◌, true, List, ℕ, ◌<◌, ◌≤◌};
+ghost use Rattle.std.specs.Prelude.{◌≡◌, true, ◌<◌, ◌≤◌};
 ghost use Rattle.net.specs.Limits.{max_bases, max_live};
 ghost use Rattle.net.specs.Tests.{pick};
 ghost use Rattle.net.specs.Journal.{common};
 ghost use Rattle.words.specs.Sets.{set_of, either};
-ghost use Rattle.firings.specs.Lines.{lying, lines_in};
+ghost use Rattle.firings.specs.Lines.{lines_in};
 ghost use Rattle.firings.specs.Search.{keys_in};
 ghost use Rattle.firings.specs.Form.{climbs};
 ghost use Rattle.spread.specs.Depends.{spread_from};
 ghost use Rattle.spread.specs.Spread.{told, not_told, spread_among};
 
-use firings::index_of;
-use net::{Key, MAX_BASES, MAX_LIVE, Verdict};
+use firings::Firings;
+use net::{Key, MAX_BASES, Verdict};
+use std::array::from_fn;
 use words::{has_base, shares, union};
 
 // The answer, and a flag for each part: whether it was moved by the firing or by one that depends on it. Unused flags are no.
@@ -30,22 +31,21 @@ fn wider(set: u64, moved: u64) -> u64
         ≡ pick (common (set_of max_bases set) (set_of max_bases moved)) (either (set_of max_bases set) (set_of max_bases moved)) (set_of max_bases set) }
 {
     if shares(set, moved) {
-        return union(set, moved);
+        union(set, moved)
+    } else {
+        set
     }
-    set
 }
 
 // Where the live firing at i spreads. `spread_of` has found it among the live ones.
-fn spread_at(moved: &[u64; MAX_LIVE], live: usize, i: usize) -> u64
-    requires { (i < live) × (live ≤ max_live) }
-    ensures { (ts keys : List ℕ) → set_of max_bases result ≡ spread_from i (lines_in max_bases (lying live ts keys moved.now)) }
+fn spread_at(f: &Firings, i: usize) -> u64
+    requires { (i < f.now.live) × (f.now.live ≤ max_live) }
+    ensures { set_of max_bases result ≡ spread_from i (lines_in max_bases f.now) }
 {
-    let own = moved[i];
+    let own = f.moved[i];
     let mut set = own;
-    let mut j = i + 1;
-    while j < live {
-        set = wider(set, moved[j]);
-        j += 1;
+    for &moved in &f.moved[i + 1..f.live] {
+        set = wider(set, moved);
     }
     set
 }
@@ -54,15 +54,9 @@ fn spread_at(moved: &[u64; MAX_LIVE], live: usize, i: usize) -> u64
 fn tell(set: u64) -> Spread
     ensures { result ≡ told (set_of max_bases set) }
 {
-    let mut parts = [false; MAX_BASES];
-    let mut p: u8 = 0;
-    while p < 64 {
-        parts[p as usize] = has_base(set, p);
-        p += 1;
-    }
     Spread {
         answer: Verdict::Accepted,
-        parts: parts,
+        parts: from_fn(|p| has_base(set, p as u8)),
     }
 }
 
@@ -77,19 +71,12 @@ pub fn tell_none(n: u8) -> Spread
 }
 
 // The spread of the firing of a key; 19 where it is not live. The keys of a sound record ascend.
-pub fn spread_of<'a>(
-    keys: &'a [u16; MAX_LIVE],
-    moved: &'a [u64; MAX_LIVE],
-    live: usize,
-    key: Key,
-) -> Spread
-    requires { (live ≤ max_live) × (climbs 0 (keys_in live keys.now) ≡ true) }
-    ensures { (ts : List ℕ) → result ≡ spread_among key (lines_in max_bases (lying live ts keys.now moved.now)) }
+pub fn spread_of(f: &Firings, key: Key) -> Spread
+    requires { (f.now.live ≤ max_live) × (climbs 0 (keys_in f.now.live f.now.keys) ≡ true) }
+    ensures { result ≡ spread_among key (lines_in max_bases f.now) }
 {
-    let i = index_of(keys, live, key);
-    if live <= i {
+    let Some(i) = f.index_of(key) else {
         return tell_none(19);
-    }
-    let set = spread_at(moved, live, i);
-    tell(set)
+    };
+    tell(spread_at(f, i))
 }

@@ -59,7 +59,7 @@ pub fn lowest_base(w: u64) -> u8
     requires { w ≡ 0 → ⊥ }
     ensures { (result < max_bases) × (get_or (set_of max_bases w) result false ≡ true) }
 {
-    u64::trailing_zeros(w) as u8
+    w.trailing_zeros() as u8
 }
 
 // What is in one set or the other.
@@ -87,5 +87,5 @@ pub fn other_bases(a: u64, b: u64) -> u64
 pub fn count_bases(w: u64) -> u8
     ensures { result ≡ size_of (set_of max_bases w) }
 {
-    u64::count_ones(w) as u8
+    w.count_ones() as u8
 }

@@ -12,8 +12,8 @@ returns-then-shares c =
     let b = set_of max_bases c.args.moved in
     c.union.ensures ∙ ap (λ (x : Bool). pick x (either a b) a) (sym (sym c.shares.ensures ∙ c.if-shares.true))
 
-pub returns : goal.returns
-returns c =
+pub returns-else-shares : goal.returns-else-shares
+returns-else-shares c =
     let a = set_of max_bases c.args.set in
     let b = set_of max_bases c.args.moved in
     ap (λ (x : Bool). pick x (either a b) a) (sym (sym c.shares.ensures ∙ c.if-shares.false))
