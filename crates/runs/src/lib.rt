@@ -10,7 +10,7 @@ ghost use Rattle.marking.specs.Form.{bonds_of};
 ghost use Rattle.labels.specs.Labelled.{Labelled};
 ghost use Rattle.sound.specs.Soundness.{journal_in, Kept};
 ghost use Rattle.command_list.specs.Commands.{how_many, commands_in};
-ghost use Rattle.runs.specs.Running.{held_at, performed_of, StepDid, RanOn};
+ghost use Rattle.runs.specs.Running.{performed_of, StepDid, RanOn};
 
 use command_list::{command_at, how_many};
 use commands::{Answer, value_of, word_of};

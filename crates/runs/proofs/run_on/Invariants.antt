@@ -10,4 +10,4 @@ abbrev pub invariant-loop-i : goal.invariant-loop-i
 invariant-loop-i l =
     (length l.words ≡ length l.initial.words) × (length l.values ≡ length l.initial.values)
     × Labelled l.labels.of l.labels.members (bonds_of l.held.marking)
-    × Upto l.sheet l.before l.commands l.initial.counts l.initial.words l.initial.values l.i l.held l.counts l.words l.values
+    × Upto l.sheet l.fn.before l.commands l.initial.counts l.initial.words l.initial.values l.i l.held l.counts l.words l.values

@@ -1,14 +1,20 @@
 -- `way_back::is_live`: the answers to the goals that the check leaves.
-use mathlib.Core.Path.{ap, ◌∙◌}
-use Prim.Native.Nat.{ℕ}
+use Rattle.std.proofs.Common.{◌≡◌, true, false, ℕ, ◌<◌, ap, sym, ◌∙◌, refl, get_or, arith}
 use lib.Dec.{eqb, ltb}
-use lib.ListN.{get_or}
+use borrow.Author.Tests.{lt-ltb, le-ltb}
 use Rattle.net.proofs.Firsts.{first-among}
-use Rattle.firings.specs.Lines.{lying}
+use Rattle.firings.specs.Search.{keys_in, index_of}
 use Rattle.firings.proofs.Keys.{live-keys}
 use Rattle.way_back.proofs.is_live.Goals as goal
 
-pub returns : goal.returns
-returns c =
-    λ n ts ms. ap (λ (i : ℕ). ltb i c.args.live) c.index_of-i.ensures ∙ first-among (λ x. eqb x c.args.k.0) c.args.live (λ i. get_or c.args.keys.now i 0)
-    ∙ live-keys n (lying c.args.live ts c.args.keys.now ms) c.args.k
+pub returns-in-Some : goal.returns-in-Some
+returns-in-Some c =
+    let f = c.args.f.now in
+    λ n. sym (ap (λ (i : ℕ). ltb i f.live) (sym c.in-Some.ensures.0) ∙ lt-ltb _ _ c.in-Some.ensures.1)
+    ∙ first-among (λ x. eqb x c.args.k.0) f.live (λ i. get_or f.keys i 0) ∙ live-keys n f c.args.k
+
+pub returns-in-None : goal.returns-in-None
+returns-in-None c =
+    let f = c.args.f.now in
+    λ n. sym (ap (λ (i : ℕ). ltb i f.live) (sym c.in-None.ensures) ∙ le-ltb _ _ (omega arith))
+    ∙ first-among (λ x. eqb x c.args.k.0) f.live (λ i. get_or f.keys i 0) ∙ live-keys n f c.args.k

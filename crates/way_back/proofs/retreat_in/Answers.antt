@@ -10,8 +10,8 @@ use Rattle.way_back.proofs.retreat_in.Goals as goal
 pub loop-turns-init : goal.loop-turns-init
 loop-turns-init c = ((c.requires.passed, c.requires.labelled.1, record { stays = λ k P. P; same = λ k P. refl }), c.requires.labelled.0)
 
-pub turn-t-requires : goal.turn-t-requires
-turn-t-requires c =
+pub turn-turns-requires : goal.turn-turns-requires
+turn-turns-requires c =
     let come = c.loop-turns.invariant.0 in
     let k : Key = come.0.0 in
     record {
@@ -22,7 +22,7 @@ turn-t-requires c =
 pub loop-turns-preserved : goal.loop-turns-preserved
 loop-turns-preserved c =
     let come = c.loop-turns.invariant.0 in
-    ((come.0, come.1, searched-on c.args.sheet.now c.args.layout.now _ _ _ _ _ _ _ _ _ come.2 c.turn-t.ensures.searched), c.turn-t.ensures.labelled_2.0)
+    ((come.0, come.1, searched-on c.args.sheet.now c.args.layout.now _ _ _ _ _ _ _ _ _ come.2 c.turn-turns.ensures.searched), c.turn-turns.ensures.labelled_2.0)
 
 pub returns : goal.returns
 returns c =
