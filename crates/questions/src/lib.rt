@@ -28,8 +28,7 @@ pub fn live_firings(r: Record, sheet: &[u8]) -> LiveFirings
     if refusal != 0 {
         return no_live(refusal);
     }
-    let f = r.firings;
-    list_live(&f.transitions, &f.keys, &f.moved, f.live)
+    list_live(&r.firings)
 }
 
 // The smallest set of live firings to take back so that every part is where the layout names it, a byte for each part, 255 for
@@ -42,9 +41,7 @@ pub fn way_back(r: Record, sheet: &[u8], layout: &[u8]) -> WayBack
     if refusal != 0 {
         return no_way(refusal);
     }
-    let m = r.marking;
-    let f = r.firings;
-    way_from(sheet, layout, m, f)
+    way_from(sheet, layout, r.marking, r.firings)
 }
 
 // Whether the firing of that key can be taken back now: yes exactly where kind 3 with that key would be answered undone.
@@ -56,9 +53,7 @@ pub fn can_undo(r: Record, sheet: &[u8], key: Key) -> bool
     if refusal != 0 {
         return false;
     }
-    let f = r.firings;
-    let movers = r.movers;
-    is_lit(&movers, &f.keys, &f.moved, f.live, key)
+    is_lit(&r.movers, &r.firings, key)
 }
 
 // The lamps of all live firings in their order, with their number: 1 to 10 first; none is lit where the call is refused.
@@ -70,9 +65,7 @@ pub fn lamps(r: Record, sheet: &[u8]) -> Lamps
     if refusal != 0 {
         return show_none(refusal);
     }
-    let f = r.firings;
-    let movers = r.movers;
-    show(&movers, &f.keys, &f.moved, f.live)
+    show(&r.movers, &r.firings)
 }
 
 // The parts moved by the firing of that key, or by a live one that depends on it, directly or through others: a flag for each
@@ -85,8 +78,7 @@ pub fn spread(r: Record, sheet: &[u8], key: Key) -> Spread
     if refusal != 0 {
         return tell_none(refusal);
     }
-    let f = r.firings;
-    spread_of(&f.keys, &f.moved, f.live, key)
+    spread_of(&r.firings, key)
 }
 
 // The steps of the live firings in the reordering, among those that keep the order of firings with a common part, that is first
@@ -99,9 +91,5 @@ pub fn listing(r: Record, sheet: &[u8]) -> Listing
     if refusal != 0 {
         return list_none(refusal);
     }
-    let f = r.firings;
-    let transitions = f.transitions;
-    let keys = f.keys;
-    let moved = f.moved;
-    list_steps(transitions, keys, moved, f.live)
+    list_steps(r.firings)
 }

@@ -8,7 +8,7 @@ pub mod run;
 ghost use Rattle.std.specs.Prelude.{◌≡◌, []};
 ghost use Rattle.net.specs.Checks.{first};
 ghost use Rattle.session.specs.Records.{Sound};
-ghost use Rattle.session.specs.Lent.{record_with};
+ghost use Rattle.session.specs.Lent.{record_with, held_by};
 ghost use Rattle.session.specs.Commands.{refusal, perform_of, record_checks, outcome_for, Commanded};
 
 use commands::{Answer, word_of};
@@ -54,24 +54,36 @@ pub struct Counted {
 fn record_with(h: Held) -> Record
     ensures { result ≡ record_with h }
 {
+    let Held {
+        marking,
+        firings,
+        movers,
+        given,
+    } = h;
     Record {
-        marking: h.marking,
-        firings: h.firings,
-        movers: h.movers,
-        given: h.given,
+        marking,
+        firings,
+        movers,
+        given,
     }
 }
 
 impl Record {
     // What the record holds.
-    pub fn held(self) -> Held
-        ensures { record_with result ≡ self }
+    fn held(self) -> Held
+        ensures { result ≡ held_by self }
     {
+        let Record {
+            marking,
+            firings,
+            movers,
+            given,
+        } = self;
         Held {
-            marking: self.marking,
-            firings: self.firings,
-            movers: self.movers,
-            given: self.given,
+            marking,
+            firings,
+            movers,
+            given,
         }
     }
 

@@ -13,4 +13,4 @@ is_lit-requires c =
     (live-few c.args.sheet.now c.args.r.marking c.args.r.firings c.args.r.given P, keys-rise c.args.sheet.now c.args.r.marking c.args.r.firings c.args.r.given P)
 
 pub returns : goal.returns
-returns c = c.is_lit.ensures c.args.r.firings.transitions ∙ lamp-asked c.args.sheet.now c.args.r (c.refusal_on-refusal.ensures.sound c.if-refusal-ne0.false) c.args.key
+returns c = c.is_lit.ensures ∙ lamp-asked c.args.sheet.now c.args.r (c.refusal_on-refusal.ensures.sound c.if-refusal-ne0.false) c.args.key

@@ -10,4 +10,4 @@ pub show-requires : goal.show-requires
 show-requires c = keys-rise c.args.sheet.now c.args.r.marking c.args.r.firings c.args.r.given (c.refusal_on-refusal.ensures.sound c.if-refusal-ne0.false).passed
 
 pub returns : goal.returns
-returns c = let both = lamps-shown c.args.sheet.now c.args.r (c.refusal_on-refusal.ensures.sound c.if-refusal-ne0.false) _ (c.show.ensures c.args.r.firings.transitions) in record { value = both.0; answer_value = both.1 }
+returns c = let both = lamps-shown c.args.sheet.now c.args.r (c.refusal_on-refusal.ensures.sound c.if-refusal-ne0.false) _ c.show.ensures in record { value = both.0; answer_value = both.1 }

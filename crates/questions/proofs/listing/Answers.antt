@@ -1,5 +1,5 @@
 -- `questions::listing`: the answers to the goals that the check leaves.
-use Rattle.sound.proofs.Holds.{live-few, firings-sized}
+use Rattle.sound.proofs.Holds.{live-few}
 use Rattle.questions.proofs.ListingAsked.{listing-refused, listing-asked}
 use Rattle.questions.proofs.listing.Goals as goal
 
@@ -7,13 +7,7 @@ pub returns-then-refusal-ne0 : goal.returns-then-refusal-ne0
 returns-then-refusal-ne0 c = let both = listing-refused c.args.sheet.now c.args.r _ c.refusal_on-refusal.ensures.value c.if-refusal-ne0.true _ c.list_none.ensures in record { value = both.0; answer_value = both.1 }
 
 pub list_steps-requires : goal.list_steps-requires
-list_steps-requires c =
-    let P = (c.refusal_on-refusal.ensures.sound c.if-refusal-ne0.false).passed in
-    let z = firings-sized c.args.sheet.now c.args.r.marking c.args.r.firings c.args.r.given P in
-    record {
-      live_le_max_live = live-few c.args.sheet.now c.args.r.marking c.args.r.firings c.args.r.given P;
-      transitions_len = (z.transitions, z.keys, z.moved);
-    }
+list_steps-requires c = live-few c.args.sheet.now c.args.r.marking c.args.r.firings c.args.r.given (c.refusal_on-refusal.ensures.sound c.if-refusal-ne0.false).passed
 
 pub returns : goal.returns
 returns c = let both = listing-asked c.args.sheet.now c.args.r (c.refusal_on-refusal.ensures.sound c.if-refusal-ne0.false) _ c.list_steps.ensures in record { value = both.0; answer_value = both.1 }

@@ -12,4 +12,4 @@ spread_of-requires c =
     (live-few c.args.sheet.now c.args.r.marking c.args.r.firings c.args.r.given P, keys-rise c.args.sheet.now c.args.r.marking c.args.r.firings c.args.r.given P)
 
 pub returns : goal.returns
-returns c = let both = spread-asked c.args.sheet.now c.args.r c.args.key (c.refusal_on-refusal.ensures.sound c.if-refusal-ne0.false) _ (c.spread_of.ensures c.args.r.firings.transitions) in record { value = both.0; answer_value = both.1 }
+returns c = let both = spread-asked c.args.sheet.now c.args.r c.args.key (c.refusal_on-refusal.ensures.sound c.if-refusal-ne0.false) _ c.spread_of.ensures in record { value = both.0; answer_value = both.1 }
