@@ -20,6 +20,12 @@ room at =
 pub loop-i-init : goal.loop-i-init
 loop-i-init c = λ n. hand-none (away (lines_in n c.args.after.now)) (lines_in n c.args.before.now) c.args.before.now.live (sym (length-table c.args.before.now.live _)) _ refl
 
+pub offset_bounds-keys-count : goal.offset_bounds-keys-count
+offset_bounds-keys-count c =
+    let h = room (goal.at.offset_bounds-keys-count c).At-loop-i in
+    let r = c.requires.0 in
+    omega arith
+
 pub bounds-keys-count : goal.bounds-keys-count
 bounds-keys-count c =
     let h = room (goal.at.bounds-keys-count c).At-loop-i in
@@ -43,7 +49,7 @@ loop-i-preserved c =
     let ls : List LiveLine = lines_in n b in
     let there : (get_or ls i no_line).key ≡ k = ap (λ (l : LiveLine). l.key) (get_d-table b.live (λ j. as_line n (firing_at b.transitions b.keys b.moved j)) i no_line (omega arith)) in
     let size : length ls ≡ b.live = length-table b.live _ in
-    hand-turn g ls i k there c.loop-i.keys c.loop-i.count (omega arith) (rw e at (c.loop-i.invariant n)) c.is_live-here.result (ap not (sym (c.is_live-here.ensures n))) _ c.key_unless.ensures _ c.one_unless.ensures.0
+    hand-turn g ls i k there c.loop-i.keys c.loop-i.count (omega arith) (rw e at (c.loop-i.invariant n)) c.is_live-here.result (ap not (sym (c.is_live-here.ensures n))) _ c.key_unless.ensures _ c.one_unless-count.ensures.0
 
 pub returns : goal.returns
 returns c = λ n. hand-all (away (lines_in n c.args.after.now)) (lines_in n c.args.before.now) c.loop-i.i _ _ (omega arith) (c.loop-i.invariant n)

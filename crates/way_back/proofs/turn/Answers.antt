@@ -30,10 +30,10 @@ returns-then-n-p c =
       labelled_2 = (c.requires.labelled.0, c.requires.labelled.2);
     }
 
-pub overflow_cast-top_at : goal.overflow_cast-top_at
-overflow_cast-top_at c =
+pub overflow_cast-p : goal.overflow_cast-p
+overflow_cast-p c =
     let e = c.base_count-n.ensures in
-    let h = few-bases (goal.at.overflow_cast-top_at c).Start in
+    let h = few-bases (goal.at.overflow_cast-p c).Start in
     record { fits = omega arith }
 
 pub top_at-requires : goal.top_at-requires
