@@ -5,7 +5,7 @@ use mathlib.Core.List.{List}
 use Prim.Native.Nat.{ℕ, zero, suc, ◌+◌, ◌<◌, ◌≤◌}
 use native.Mathlib.Omega.{arith}
 use lib.Dec.{ltb}
-use lib.ListN.{length, get_or}
+use lib.ListN.{get_or}
 use denote.Param.Members.{Mut}
 use borrow.Author.Tests.{ltb-true, ltb-false}
 use Rattle.std.specs.Array.{IsFromFnResult, IsFromFnResultFrom}

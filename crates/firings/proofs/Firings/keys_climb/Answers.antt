@@ -1,14 +1,11 @@
 -- `firings::Firings::keys_climb`: the answers to the goals that the check leaves.
 use borrow.Author.Rules.{rules}
 use native.Mathlib.Omega.{arith}
-use mathlib.Core.Path.{◌≡◌, refl}
+use mathlib.Core.Path.{◌≡◌}
 use Prim.Native.Nat.{◌≤◌}
 use lib.ListN.{length, get_or}
 use Rattle.firings.proofs.Loops.{climb-turn, climb-end, front-at, front-in, front-long}
 use Rattle.firings.proofs.Firings.keys_climb.Goals as goal
-
-pub loop-k-init : goal.loop-k-init
-loop-k-init c = refl
 
 pub loop-k-preserved : goal.loop-k-preserved
 loop-k-preserved c =

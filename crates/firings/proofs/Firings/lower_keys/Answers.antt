@@ -1,15 +1,12 @@
 -- `firings::Firings::lower_keys`: the answers to the goals that the check leaves.
-use borrow.Author.Rules.{rules}
 use native.Mathlib.Omega.{arith}
 use mir.Val.{bool_byte}
-use mathlib.Core.Path.{◌≡◌, sym, ap, ◌∙◌}
-use Prim.Native.Nat.{ℕ, ◌≤◌}
+use mathlib.Core.Path.{sym, ap, ◌∙◌}
+use Prim.Native.Nat.{ℕ}
 use lib.Dec.{ltb}
-use lib.ListN.{length, get_or}
-use Rattle.net.specs.Tests.{count}
+use lib.ListN.{get_or}
 use Rattle.bonds.proofs.Fill.{count-more}
-use Rattle.firings.specs.Search.{keys_in}
-use Rattle.firings.proofs.Loops.{byte-pick, byte-le, front-at, front-long}
+use Rattle.firings.proofs.Loops.{byte-pick, byte-le, front-at}
 use Rattle.firings.proofs.Firings.lower_keys.Goals as goal
 
 pub loop-k-preserved : goal.loop-k-preserved
@@ -19,10 +16,3 @@ loop-k-preserved c =
     let one = byte-le less in
     let e = c.from-n.ensures ∙ ap (λ (x : ℕ). bool_byte (ltb x c.args.key.0)) (front-at f.live c.loop-k.k-index f.keys c.loop-k-test.true) in
     (omega arith, rw (c.loop-k.invariant.1, e ∙ byte-pick less) (sym (count-more (λ x. ltb x c.args.key.0) c.loop-k.k-index (λ i. get_or f.keys i 0))))
-
-pub returns : goal.returns
-returns c =
-    let f = c.args.self.now in
-    let size : f.live ≤ length f.keys = search rules in
-    let e : c.loop-k.k-index ≡ f.live = front-long f.live c.loop-k.k-index f.keys size c.loop-k.auto.k-index-end c.loop-k-test.false in
-    c.loop-k.invariant.1 ∙ ap (λ (n : ℕ). count (λ x. ltb x c.args.key.0) (keys_in n f.keys)) e

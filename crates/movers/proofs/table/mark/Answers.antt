@@ -1,7 +1,6 @@
 -- `movers::table::mark`: the answers to the goals that the check leaves.
-use borrow.Author.Rules.{rules}
 use native.Mathlib.Omega.{arith}
-use mathlib.Core.Path.{◌≡◌, refl, ap, sym, ◌∙◌}
+use mathlib.Core.Path.{◌≡◌, ap, sym, ◌∙◌}
 use Prim.Native.Nat.{ℕ}
 use lib.ListN.{set, length-set}
 use mathlib.Core.List.{List}
@@ -12,12 +11,6 @@ use Rattle.words.proofs.Bits.{set-size}
 use Rattle.movers.specs.Lamp.{marked}
 use Rattle.movers.proofs.Marks.{mark-none, mark-turn}
 use Rattle.movers.proofs.table.mark.Goals as goal
-
-pub loop-left-init : goal.loop-left-init
-loop-left-init c = (search rules, refl)
-
-pub loop-left-smaller : goal.loop-left-smaller
-loop-left-smaller c = c.without_base-left.ensures.upper_bound c.lowest_base-p.ensures.1
 
 pub loop-left-preserved : goal.loop-left-preserved
 loop-left-preserved c =

@@ -1,7 +1,7 @@
 -- `movers::table::mark_back`: the answers to the goals that the check leaves.
 use borrow.Author.Rules.{rules}
 use native.Mathlib.Omega.{arith}
-use mathlib.Core.Path.{◌≡◌, refl, ap, ap₂, sym, ◌∙◌}
+use mathlib.Core.Path.{◌≡◌, ap, ap₂, sym, ◌∙◌}
 use mathlib.Core.List.{List}
 use mathlib.Core.Bool.{Bool}
 use Prim.Native.Nat.{ℕ, suc, ◌-◌}
@@ -13,9 +13,6 @@ use Rattle.firings.proofs.Lines.{line_at}
 use Rattle.movers.specs.Lamp.{given_back}
 use Rattle.movers.proofs.Marks.{marked-size, back-turn, back_none}
 use Rattle.movers.proofs.table.mark_back.Goals as goal
-
-pub loop-i-init : goal.loop-i-init
-loop-i-init c = (search rules, c.requires, search rules, refl)
 
 pub returns-then-left-eq0 : goal.returns-then-left-eq0
 returns-then-left-eq0 c = back_none max_bases (lines_in max_bases (record c.args.f.now { live = c.loop-i.i })) c.loop-i.left c.loop-i.table c.if-left-eq0.true c.loop-i.invariant.2 ∙ c.loop-i.invariant.3

@@ -1,6 +1,6 @@
 -- `movers::table::on_top`: the answers to the goals that the check leaves.
 use native.Mathlib.Omega.{arith}
-use mathlib.Core.Path.{◌≡◌, refl, ap, sym, ◌∙◌}
+use mathlib.Core.Path.{◌≡◌, ap, sym, ◌∙◌}
 use Prim.Native.Nat.{ℕ}
 use mathlib.Core.List.{List}
 use mathlib.Core.Bool.{Bool}
@@ -11,16 +11,10 @@ use Rattle.movers.specs.Lamp.{key_at_all}
 use Rattle.movers.proofs.Marks.{top-none, top-turn, top-off}
 use Rattle.movers.proofs.table.on_top.Goals as goal
 
-pub loop-rest-init : goal.loop-rest-init
-loop-rest-init c = refl
-
 pub returns-then-table-p : goal.returns-then-table-p
 returns-then-table-p c =
     let (low, is) = c.lowest_base-p.ensures in
     sym (top-off max_bases c.args.table.now (set_of max_bases c.loop-rest.rest) c.lowest_base-p.result c.args.key.0 low is c.if-table-p.true) ∙ c.loop-rest.invariant
-
-pub loop-rest-smaller : goal.loop-rest-smaller
-loop-rest-smaller c = c.without_base-rest.ensures.upper_bound c.lowest_base-p.ensures.1
 
 pub loop-rest-preserved : goal.loop-rest-preserved
 loop-rest-preserved c =

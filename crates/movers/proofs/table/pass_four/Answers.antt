@@ -1,14 +1,11 @@
 -- `movers::table::pass_four`: the answers to the goals that the check leaves.
 use borrow.Author.Rules.{rules}
-use mathlib.Core.Path.{refl, sym, ◌∙◌}
+use mathlib.Core.Path.{sym, ◌∙◌}
 use Rattle.net.specs.Limits.{max_bases}
 use Rattle.words.specs.Sets.{set_of}
 use Rattle.firings.proofs.Lines.{line_at}
 use Rattle.movers.proofs.Marks.{back-passed}
 use Rattle.movers.proofs.table.pass_four.Goals as goal
-
-pub loop-i-init : goal.loop-i-init
-loop-i-init c = (c.requires.0, search rules, c.requires.1, λ table. refl)
 
 pub loop-i-preserved : goal.loop-i-preserved
 loop-i-preserved c = (
