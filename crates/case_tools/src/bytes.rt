@@ -11,7 +11,9 @@ pub fn put(buf: &mut [u8], at: usize, value: u64) {
 
 // All of a slice from a position on.
 pub fn put_all(buf: &mut [u8], at: usize, from: &[u8]) {
-    for (to, &byte) in buf.iter_mut().skip(at).zip(from) {
-        *to = byte;
+    if let Some(rest) = buf.get_mut(at..) {
+        for (to, &byte) in rest.iter_mut().zip(from) {
+            *to = byte;
+        }
     }
 }

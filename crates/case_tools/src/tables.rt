@@ -5,7 +5,10 @@ use std::array;
 
 fn last_mover(live: usize, keys: &[u16; 256], moved: &[u64; 256], p: usize) -> Option<u16> {
     let firings = keys.iter().zip(moved).take(live);
-    firings.filter(|&(_, &set)| has(set, p)).last().map(|(&key, _)| key)
+    firings
+        .filter(|&(_, &set)| has(set, p))
+        .last()
+        .map(|(&key, _)| key)
 }
 
 pub fn last_movers(live: usize, keys: &[u16; 256], moved: &[u64; 256]) -> [u16; 64] {

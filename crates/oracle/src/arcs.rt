@@ -9,8 +9,9 @@ use crate::sets::{
 
 // So many words from one on get a value.
 pub fn fill(s: &mut [u64], from: usize, n: usize, value: u64) {
-    for word in s.iter_mut().skip(from).take(n) {
-        *word = value;
+    if let Some(rest) = s.get_mut(from..) {
+        let end = n.min(rest.len());
+        rest[..end].fill(value);
     }
 }
 
@@ -36,17 +37,12 @@ fn lay_bonds(s: &mut [u64], sheet: &[u8], table: Table, from: usize, n: usize)
 }
 
 pub fn lay_start(s: &mut [u64], sheet: &[u8]) {
-    let from = word(sheet, 4);
+    let places = word(sheet, 4);
     for b in 0..count(sheet, 2) {
-        lay_base(s, Table::Marking, index(sheet, from + b), b);
+        lay_base(s, Table::Marking, index(sheet, places + b), b);
     }
-    lay_bonds(
-        s,
-        sheet,
-        Table::Marking,
-        word(sheet, 8),
-        word(sheet, 10) / 2,
-    );
+    let bonds = word(sheet, 8);
+    lay_bonds(s, sheet, Table::Marking, bonds, word(sheet, 10) / 2);
 }
 
 // The entries' bases in the places that they come from, or go to.

@@ -13,12 +13,13 @@ fn brought(old: u64, set: u64, row: usize) -> u64 {
     }
 }
 
-// What is left of a word of the marking when con(a, M(x)) goes for each a of the place's label.
-fn left_at(s: &[u64], labels: Table, i: usize) -> u64 {
-    let place = i / 65;
-    let set = cons(s, Table::Marking, place, bases_at(s, labels, place));
-    let old = word_at(s, Table::Marking, i);
-    less(old, brought(old, set, i % 65))
+// Out of a place x: what is left of the marking there when con(a, M(x)) goes for each a of its label.
+fn take_out(s: &mut [u64], labels: Table, x: usize) {
+    let set = cons(s, Table::Marking, x, bases_at(s, labels, x));
+    for r in 0..65 {
+        let old = get(s, cell(Table::Marking, x, r));
+        put(s, cell(Table::New, x, r), less(old, brought(old, set, r)));
+    }
 }
 
 // (M(y) - F(y)) with F(x), of one side's label and the other's, goes to place 0 of the table.
@@ -51,9 +52,11 @@ fn bring(s: &mut [u64], from: Table, to: Table, y: usize, x: usize) {
     }
 }
 
-// Out of every place, into places, and the new marking is the marking.
+// Out of every place, into the places, and the new marking is the marking.
 fn transfer(s: &mut [u64], from: Table, to: Table) {
-    lay(s, Table::New, |s, i| left_at(s, from, i));
+    for x in 0..size(s) / 65 {
+        take_out(s, from, x);
+    }
     for i in 0..size(s) {
         bring(s, from, to, i / 65, i % 65);
     }

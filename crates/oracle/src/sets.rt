@@ -101,14 +101,12 @@ fn is_home(s: &[u64], table: Table, base: usize, place: usize) -> bool {
 
 // The places that have a base, as a set.
 pub fn homes(s: &[u64], table: Table, base: usize) -> u64 {
-    union(
-        64,
-        |x| if is_home(s, table, base, x) {
-            only(x)
-        } else {
-            0
-        },
-    )
+    let home = |x| if is_home(s, table, base, x) {
+        only(x)
+    } else {
+        0
+    };
+    union(64, home)
 }
 
 // The least place that has a base; 0 where none has it.
