@@ -20,7 +20,17 @@ const RUN: usize = 4;
 
 const DIFFERED: usize = 5;
 
+// The first difference: where it was, what was asked, what both gave and what differs, a word each.
 const FIRST: usize = 8;
+
+const FIRST_NAMES: [&[u8]; 6] = [
+    b"    first: seed",
+    b"    command from 1, 0 at the end",
+    b"    number of the question",
+    b"    ours",
+    b"    the other's",
+    b"    what differs, a sum",
+];
 
 // Counts that every kind has: sessions; those in which a step uncoupled; that end with ten live firings or more; takings back of a firing
 // that was not the last; commands; altered records that were refused; sheets that were. A question's own counts begin at 8.
@@ -66,37 +76,28 @@ pub fn unless(same: bool, what: u64) -> u64 {
     if same { 0 } else { what }
 }
 
-fn keep(c: &mut [u64], number: u64, ours: u64, theirs: u64, what: u64) {
-    put(c, FIRST, get(c, SEED));
-    put(c, FIRST + 1, get(c, COMMAND));
-    put(c, FIRST + 2, number);
-    put(c, FIRST + 3, ours);
-    put(c, FIRST + 4, theirs);
-    put(c, FIRST + 5, what);
-}
-
 // A comparison of ours with another, at a number of the question's, and what differs. The first difference is kept.
 pub fn judged(c: &mut [u64], number: u64, ours: u64, theirs: u64, what: u64) {
-    let first = (what != 0) & (get(c, DIFFERED) == 0);
+    let first = what != 0 && get(c, DIFFERED) == 0;
     add(c, RUN, 1);
     add(c, DIFFERED, unless(what == 0, 1));
     if first {
-        keep(c, number, ours, theirs, what);
+        let words = [get(c, SEED), get(c, COMMAND), number, ours, theirs, what];
+        for (kept, word) in c.iter_mut().skip(FIRST).zip(words) {
+            *kept = word;
+        }
     }
 }
 
 fn print_first(c: &[u64]) {
-    print_count(b"    first: seed", get(c, FIRST));
-    print_count(b"    command from 1, 0 at the end", get(c, FIRST + 1));
-    print_count(b"    number of the question", get(c, FIRST + 2));
-    print_count(b"    ours", get(c, FIRST + 3));
-    print_count(b"    the other's", get(c, FIRST + 4));
-    print_count(b"    what differs, a sum", get(c, FIRST + 5));
+    for (name, &n) in FIRST_NAMES.iter().zip(c.iter().skip(FIRST)) {
+        print_count(name, n);
+    }
 }
 
 // The row's counts, and its first difference where there is one. A row without a name belongs to the next.
 pub fn print_group(c: &mut [u64], name: &[u8]) {
-    if name.len() == 0 {
+    if name.is_empty() {
         return;
     }
     print_run(name, get(c, RUN), get(c, DIFFERED));

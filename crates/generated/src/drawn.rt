@@ -35,115 +35,92 @@ pub fn undo_bytes(key: u64) -> [u8; 3] {
 
 // Whether a key is live and not the highest, and, where that is asked, may be taken back.
 fn suits(s: &[u64], key: u64, free: bool) -> bool {
-    if (key == 0) | (key == highest(s)) {
-        return false;
-    }
-    !free | (oracle::undo_hindered(s, key) == 0)
+    key != 0 && key != highest(s) && (!free || oracle::undo_hindered(s, key).is_ok())
 }
 
 // The key that suits in the first slot from one on, going round; the highest where none does.
 fn key_from(s: &[u64], first: usize, free: bool) -> u64 {
-    let mut i: usize = 0;
-    while i < 256 {
-        let key = oracle::key_at(s, first % 256 + i);
-        if suits(s, key, free) {
-            return key;
-        }
-        i += 1;
-    }
-    highest(s)
+    let mut keys = (0..256).map(|i| oracle::key_at(s, first % 256 + i));
+    keys.find(|&key| suits(s, key, free))
+        .unwrap_or_else(|| highest(s))
 }
 
 // Any number: of 2, one is below 300, one a key that was given, taken back or not, or 0, or one of the next two.
 fn any_key(s: &[u64], x: u64) -> u64 {
     if x % 2 == 0 {
-        return x / 2 % 300;
+        x / 2 % 300
+    } else {
+        below(x / 2, given(s) % 65536 + 3)
     }
-    below(x / 2, given(s) % 65536 + 3)
 }
 
 // A key for kind 3. Of 8: one is any number, one the highest live key, three any other live key, three another that may be
 // taken back.
 fn some_key(s: &[u64], x: u64) -> u64 {
     let y = x / 8;
-    if x % 8 == 0 {
-        return any_key(s, y);
+    match x % 8 {
+        0 => any_key(s, y),
+        1 => highest(s),
+        lot => {
+            let first = below(y, oracle::live(s) as u64) % 256;
+            key_from(s, first as usize, lot < 5)
+        }
     }
-    if x % 8 == 1 {
-        return highest(s);
-    }
-    let first = below(y, oracle::live(s) as u64) % 256;
-    key_from(s, first as usize, x % 8 < 5)
 }
 
 fn is_enabled(sheet: &[u8], s: &mut [u64], t: usize) -> bool {
-    if count(sheet, 3) <= t {
-        return false;
-    }
-    oracle::hindered(sheet, s, t) == 0
+    t < count(sheet, 3) && oracle::hindered(sheet, s, t).is_ok()
 }
 
 // The first enabled transition from one on, going round; that one where none is.
 fn enabled_from(sheet: &[u8], s: &mut [u64], first: usize) -> usize {
-    let mut i: usize = 0;
-    while i < 64 {
-        let t = (first % 64 + i) % 64;
-        if is_enabled(sheet, s, t) {
-            return t;
-        }
-        i += 1;
-    }
-    first
+    let mut transitions = (0..64).map(|i| (first % 64 + i) % 64);
+    transitions
+        .find(|&t| is_enabled(sheet, s, t))
+        .unwrap_or(first)
 }
 
 // A transition for kind 1: of 2, one is any of the sheet, one an enabled one.
 fn some_transition(sheet: &[u8], s: &mut [u64], x: u64) -> u64 {
     let t = below(x / 2, count(sheet, 3) as u64) % 256;
     if x % 2 == 0 {
-        return t;
+        t
+    } else {
+        enabled_from(sheet, s, t as usize) as u64
     }
-    enabled_from(sheet, s, t as usize) as u64
 }
 
 // A command that cannot be read, is cut short, or names no transition of the sheet.
 fn odd(x: u64, transitions: u64) -> u64 {
     let y = x / 8;
-    if x % 8 < 3 {
-        return made(y % 5, y % 3, y / 8 % 3);
+    match x % 8 {
+        0..=2 => made(y % 5, y % 3, y / 8 % 3),
+        3 => made(2, y % 512, 3),
+        4 | 5 => made(y, y / 256 % 4, 3),
+        6 => made(1, 256 + y % 64, 3),
+        _ => made(1, transitions % 256 + y % 3, 3),
     }
-    if x % 8 < 4 {
-        return made(2, y % 512, 3);
-    }
-    if x % 8 < 6 {
-        return made(y, y / 256 % 4, 3);
-    }
-    if x % 8 < 7 {
-        return made(1, 256 + y % 64, 3);
-    }
-    made(1, transitions % 256 + y % 3, 3)
 }
 
 // How many of 64 are odd, take back the last, or take back by key. Where room is for all that can be live, few do.
 fn taking_back(live: usize, room: u64) -> u64 {
     if 256 <= room {
-        return 9;
+        9
+    } else if room < live as u64 {
+        50
+    } else {
+        20
     }
-    if room < live as u64 { 50 } else { 20 }
 }
 
 // The command of a turn. Of 64, 4 are odd, 2 take back the last, and 14 take back by key, or most where more than `room`
 // firings are live; where room is for all that can be live, 3 do.
 pub fn command_of(sheet: &[u8], s: &mut [u64], seed: u64, i: u64, room: u64) -> u64 {
-    let x = mixed(seed, i, 0, 6) % 64;
     let y = mixed(seed, i, 1, 6);
-    if x < 4 {
-        return odd(y, count(sheet, 3) as u64);
+    match mixed(seed, i, 0, 6) % 64 {
+        0..=3 => odd(y, count(sheet, 3) as u64),
+        4 | 5 => made(2, 0, 3),
+        x if x < taking_back(oracle::live(s), room) => made(3, some_key(s, y), 3),
+        _ => made(1, some_transition(sheet, s, y), 3),
     }
-    if x < 6 {
-        return made(2, 0, 3);
-    }
-    if x < taking_back(oracle::live(s), room) {
-        return made(3, some_key(s, y), 3);
-    }
-    made(1, some_transition(sheet, s, y), 3)
 }

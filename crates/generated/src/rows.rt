@@ -2,7 +2,6 @@
 // space before each. The comparing program has a row in a slice of words, with its letters and what was commanded in the session in hand.
 ghost use Rattle.std.specs.Prelude.{◌≤◌};
 
-use case_tools::bytes::byte;
 use oracle::sets::{get, put};
 
 // The numbers of a row: the kind of question, the sheet, how many sessions, how many commands each has, above how many live firings most
@@ -44,56 +43,44 @@ pub const ROW: usize = 2512;
 pub fn find(s: &[u8], from: usize, b: u8) -> usize
     ensures { from ≤ result }
 {
-    let n = s.len();
-    let mut i = from;
-    while i < n {
-        if byte(s, i) == b {
+    for i in from..s.len() {
+        if s[i] == b {
             return i;
         }
-        i += 1;
     }
-    i
+    s.len().max(from)
 }
 
 // A part of a text; nothing where it does not reach so far.
-pub fn part<'a>(s: &'a [u8], from: usize, to: usize) -> &'a [u8] {
-    if from <= to {
-        if to <= s.len() {
-            return &s[from..to];
-        }
-    }
-    &s[0..0]
+pub fn part(s: &[u8], from: usize, to: usize) -> &[u8] {
+    s.get(from..to).unwrap_or(&[])
 }
 
 // A space begins the number after number k, a digit goes behind its others.
 fn read_byte(row: &mut [u64], k: usize, b: u8) -> usize {
     if b == b' ' {
         put(row, k % 64 + 1, 0);
-        return k % 64 + 1;
+        k % 64 + 1
+    } else {
+        let old = get(row, k);
+        put(row, k, old % 4294967296 * 10 + (b % 16) as u64);
+        k
     }
-    let old = get(row, k);
-    put(row, k, old % 4294967296 * 10 + (b % 16) as u64);
-    k
 }
 
 // The numbers of a text, from number 1 on.
 pub fn read_numbers(row: &mut [u64], s: &[u8]) {
-    let n = s.len();
-    let mut k: usize = 0;
-    let mut i: usize = 0;
-    while i < n {
-        k = read_byte(row, k, byte(s, i));
-        i += 1;
+    let mut k = 0;
+    for &b in s {
+        k = read_byte(row, k, b);
     }
 }
 
 // The letters of a row, from letter 1 on, behind the colon.
 pub fn lay_letters(row: &mut [u64], letters: &[u8]) {
     let n = letters.len() % 400;
-    let mut i: usize = 1;
-    while i < n {
-        put(row, LETTERS + i, byte(letters, i) as u64);
-        i += 1;
+    for (word, &letter) in row.iter_mut().skip(LETTERS).zip(letters).take(n).skip(1) {
+        *word = letter.into();
     }
 }
 

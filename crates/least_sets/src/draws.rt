@@ -6,14 +6,14 @@ use crate::table::{MOST, place_in};
 use case_tools::bytes::{byte, put};
 use generated::drawn::{command_of, made};
 use generated::random::{below, mixed, over};
-use oracle::sets::get;
 
 // A command by lot; where ten firings are live the last is taken back. Above `room` live firings most are takings back.
 pub fn some_command(sheet: &[u8], s: &mut [u64], seed: u64, i: u64, room: u64) -> u64 {
     if MOST <= oracle::live(s) {
-        return made(2, 0, 3);
+        made(2, 0, 3)
+    } else {
+        command_of(sheet, s, seed, i, room)
     }
-    command_of(sheet, s, seed, i, room)
 }
 
 // The number of layout j: in turn of all of a sheet, or by lot.
@@ -26,43 +26,37 @@ fn number_of(seed: u64, j: u64, all: bool) -> u64 {
     high * 4294967296 + low
 }
 
-// The places of the parts after some set was taken back, as module table has them, or 0.
-fn word_of(table: &[u64], seed: u64, j: u64, all: bool) -> u64 {
-    if all | (j % 2 == 0) {
-        return 0;
+// The places of the parts after some set was taken back, as module table has them; for every other layout by lot, where the set can be.
+fn word_of(table: &[u64], seed: u64, j: u64, all: bool) -> Option<u64> {
+    if all || j % 2 == 0 {
+        return None;
     }
     let set = below(mixed(seed, j, 2, 8), table.len() as u64);
-    get(table, set as usize)
+    table.get(set as usize).copied().filter(|&word| word != 0)
 }
 
+// How a layout names no place for a part.
+const ANY: u64 = 255;
+
 // Digit 0 stands for any place, and so does one that is too high.
-fn wanted_of(digit: u64, places: u64, word: u64, b: u64) -> u64 {
-    if digit == 0 {
-        return 255;
-    }
-    if places < digit {
-        return 255;
-    }
-    if word == 0 {
-        digit - 1
+fn wanted_of(digit: u64, places: u64, word: Option<u64>, b: usize) -> u64 {
+    if digit == 0 || places < digit {
+        ANY
     } else {
-        place_in(word, (b % 64) as usize)
+        word.map_or(digit - 1, |word| place_in(word, b))
     }
 }
 
 // Layout j on a sheet, of all or by lot, where one to three parts are named, on the whole.
 pub fn lay_layout(buf: &mut [u8], sheet: &[u8], table: &[u64], seed: u64, j: u64, all: bool) {
-    let places = byte(sheet, 1) as u64;
-    let parts = byte(sheet, 2) as u64;
-    let digits = if all { 1 } else { parts };
-    let base = places + digits % 256;
+    let places = u64::from(byte(sheet, 1));
+    let parts = byte(sheet, 2);
+    let digits = if all { 1 } else { u64::from(parts) };
+    let base = places + digits;
     let word = word_of(table, seed, j, all);
     let mut rest = number_of(seed, j, all);
-    let mut b: u64 = 0;
-    while b < parts {
-        let wanted = wanted_of(below(rest, base), places, word, b);
-        put(buf, b as usize, wanted);
+    for b in 0..usize::from(parts) {
+        put(buf, b, wanted_of(below(rest, base), places, word, b));
         rest = over(rest, base);
-        b += 1;
     }
 }

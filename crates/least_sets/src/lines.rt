@@ -33,8 +33,7 @@ pub fn key_at(h: &[u64], i: usize) -> u64 {
 pub fn count_of(h: &[u64]) -> usize
     ensures { result ≤ 256 }
 {
-    let n = get(h, COUNT);
-    if n < 256 { n as usize } else { MOST }
+    get(h, COUNT).min(256) as usize
 }
 
 // Whether two firings of a list moved a common part.
@@ -62,14 +61,11 @@ fn append_live(h: &mut [u64], s: &[u64], key: u64) {
 
 // The live firings of the second engine.
 pub fn live_lines(s: &[u64]) -> [u64; WORDS] {
-    let n = oracle::live(s);
-    let mut h = [0u64; WORDS];
-    let mut key: u64 = 0;
-    let mut i: usize = 0;
-    while i < n {
+    let mut h = [0; WORDS];
+    let mut key = 0;
+    for _ in 0..oracle::live(s) {
         key = key_after(s, key);
         append_live(&mut h, s, key);
-        i += 1;
     }
     h
 }

@@ -12,26 +12,34 @@ mod forward;
 mod history;
 mod moving;
 pub mod reader;
+mod refusal;
 pub mod sets;
 
 pub use arcs::{broken, parted};
 use arcs::{fill, lay_labels, lay_start};
-use forward::{hindrance, lacking, used};
+use forward::{hindrance, lacks, used};
 pub use history::{
     NO_KEY, given, highest, key_after, key_at, live, moved_at, raise, slot_of, transition_at,
     undo_hindered,
 };
-use history::{forget, give, record};
+use history::{find_slot, forget, give, record};
 use moving::{execute, reverse};
-use reader::{byte, count, word};
-use sets::{OUTGOING, SIZE, get, put};
+use reader::{count, word};
+pub use refusal::Refusal;
+use sets::{SIZE, Table, get, put};
 
 // Words of a state.
 pub const STATE: usize = 30917;
 
 const TALLY: usize = 30912;
 
-// A command's answer is one number: the word, 65,536 times, and the value, which is the key of the firing, or the number of
+// What a command that is not refused gives: the key of the firing.
+enum Accepted {
+    Fired(u64),
+    Undone(u64),
+}
+
+// A command's reply is one number: the word, 65,536 times, and the value, which is the key of the firing, or the number of
 // document 01's list for a refused command.
 pub const FIRED: u64 = 0;
 
@@ -39,15 +47,16 @@ pub const UNDONE: u64 = 1;
 
 pub const REFUSED: u64 = 2;
 
-// Document 01 leaves no room for a taking back that 11(1) alone forbids. It is answered so, and shows as a difference.
-const NO_ROOM: u64 = 99;
-
 pub fn reply(word: u64, value: u64) -> u64 {
     word % 3 * 65536 + value % 65536
 }
 
-fn refused(number: u64) -> u64 {
-    reply(REFUSED, number)
+fn reply_of(answer: Result<Accepted, Refusal>) -> u64 {
+    match answer {
+        Ok(Accepted::Fired(key)) => reply(FIRED, key),
+        Ok(Accepted::Undone(key)) => reply(UNDONE, key),
+        Err(refusal) => reply(REFUSED, refusal as u64),
+    }
 }
 
 // The count of a word in the tally.
@@ -69,84 +78,68 @@ pub fn begin(sheet: &[u8], s: &mut [u64], tally: u64) {
     lay_start(s, sheet);
 }
 
-// Definition 21 for a transition of the sheet: the first of 13 to 16 that holds; 0 where it is forward-enabled. Its labels are
+// Definition 21 for a transition of the sheet: which of 13 to 16 holds first, where it is not forward-enabled. Its labels are
 // laid.
-pub fn hindered(sheet: &[u8], s: &mut [u64], t: usize) -> u64 {
+pub fn hindered(sheet: &[u8], s: &mut [u64], t: usize) -> Result<(), Refusal> {
     lay_labels(s, sheet, t);
     hindrance(s)
 }
 
 // Kind 1: 12, 13 to 16, 17, 18, then the firing by Definitions 22 and 10, with a key above every one given before.
-fn fire(sheet: &[u8], s: &mut [u64], t: usize) -> u64 {
+fn fire(sheet: &[u8], s: &mut [u64], t: usize) -> Result<Accepted, Refusal> {
     if count(sheet, 3) <= t {
-        return refused(12);
+        return Err(Refusal::NoTransition);
     }
-    let number = hindered(sheet, s, t);
-    if number != 0 {
-        return refused(number);
-    }
-    let slot = slot_of(s, 0);
-    if slot == 256 {
-        return refused(17);
-    }
+    hindered(sheet, s, t)?;
+    let slot = find_slot(s, 0).ok_or(Refusal::Full)?;
     let last = given(s);
     if 65535 <= last {
-        return refused(18);
+        return Err(Refusal::NoKeyLeft);
     }
     let bases = used(s);
     record(s, sheet, slot, t, last + 1, bases);
     give(s, last + 1);
     execute(s);
-    reply(FIRED, last + 1)
+    Ok(Accepted::Fired(last + 1))
 }
 
 // The reversal of the occurrence of a key, by Definitions 24 and 12 (as 26 has it). A check of 11(1) comes first, for kind 3.
-fn undo(sheet: &[u8], s: &mut [u64], key: u64, causal: bool) -> u64 {
+fn undo(sheet: &[u8], s: &mut [u64], key: u64, causal: bool) -> Result<Accepted, Refusal> {
     let slot = slot_of(s, key);
     lay_labels(s, sheet, transition_at(s, slot));
-    if causal & (lacking(s, OUTGOING) != 0) {
-        return refused(NO_ROOM);
+    if causal && lacks(s, Table::Outgoing) {
+        return Err(Refusal::NoRoom);
     }
     reverse(s);
     forget(s, slot);
-    reply(UNDONE, key)
+    Ok(Accepted::Undone(key))
 }
 
 // Kind 2, Definitions 6 and 23: the highest key of all.
-fn undo_last(sheet: &[u8], s: &mut [u64]) -> u64 {
-    let key = highest(s);
-    if key == 0 {
-        return refused(19);
+fn undo_last(sheet: &[u8], s: &mut [u64]) -> Result<Accepted, Refusal> {
+    match highest(s) {
+        0 => Err(Refusal::NotLive),
+        key => undo(sheet, s, key, false),
     }
-    undo(sheet, s, key, false)
 }
 
 // Kind 3, Definitions 11 and 25.
-fn undo_key(sheet: &[u8], s: &mut [u64], key: u64) -> u64 {
-    let number = undo_hindered(s, key);
-    if number != 0 {
-        return refused(number);
-    }
+fn undo_key(sheet: &[u8], s: &mut [u64], key: u64) -> Result<Accepted, Refusal> {
+    undo_hindered(s, key)?;
     undo(sheet, s, key, true)
 }
 
 // A command's first three bytes, or fewer.
-fn answer(sheet: &[u8], bytes: &[u8], s: &mut [u64]) -> u64 {
+fn answer(sheet: &[u8], bytes: &[u8], s: &mut [u64]) -> Result<Accepted, Refusal> {
     if bytes.len() < 3 {
-        return refused(21);
+        return Err(Refusal::TooShort);
     }
-    let kind = byte(bytes, 0);
-    let number = word(bytes, 1);
-    if kind == 1 {
-        return fire(sheet, s, number);
+    match (bytes[0], word(bytes, 1)) {
+        (1, t) => fire(sheet, s, t),
+        (2, 0) => undo_last(sheet, s),
+        (3, key) => undo_key(sheet, s, key as u64),
+        _ => Err(Refusal::NoKind),
     }
-    if kind == 3 {
-        return undo_key(sheet, s, number as u64);
-    }
-    if (kind != 2) | (number != 0) {
-        return refused(11);
-    }
-    undo_last(sheet, s)
 }
 
 fn one_more(n: u64) -> u64 {
@@ -155,7 +148,7 @@ fn one_more(n: u64) -> u64 {
 
 // A command, answered and counted; a count at 65,535 stays there.
 pub fn command(sheet: &[u8], bytes: &[u8], s: &mut [u64]) -> u64 {
-    let r = answer(sheet, bytes, s);
+    let r = reply_of(answer(sheet, bytes, s));
     let at = TALLY + (r / 65536 % 3) as usize;
     put(s, at, one_more(get(s, at)));
     r

@@ -2,98 +2,73 @@
 // into others, as they are once one side's labels are off and the other's on. All are taken out before any is put in, so that a
 // place on both sides keeps what comes back (document 01's reading: a step from a place to itself).
 use crate::con::cons;
-use crate::sets::{
-    CHANGED, INCOMING, MARKING, NEW, OUTGOING, at, bases_at, cell, get, has, join, less, put, size,
-    word_at,
-};
+use crate::sets::{Table, bases_at, cell, get, has, join, lay, less, put, size, word_at};
 
 // What a row has of the bases of a set and of the bonds among them.
 fn brought(old: u64, set: u64, row: usize) -> u64 {
-    if row == 0 {
-        return old & set;
+    if row == 0 || has(set, row - 1) {
+        old & set
+    } else {
+        0
     }
-    if has(set, row - 1) { old & set } else { 0 }
 }
 
-// What is left of a word of the marking when con(a, M(x)) goes for each a of the place's label.
-fn left_at(s: &[u64], labels: usize, i: usize) -> u64 {
-    let place = i / 65;
-    let set = cons(s, MARKING, place, bases_at(s, labels, place));
-    let old = word_at(s, MARKING, i);
-    less(old, brought(old, set, i % 65))
-}
-
-// Out of every place.
-fn take_out(s: &mut [u64], labels: usize) {
-    let n = size(s);
-    let mut i: usize = 0;
-    while i < n {
-        put(s, at(NEW, i), left_at(s, labels, i));
-        i += 1;
+// Out of a place x: what is left of the marking there when con(a, M(x)) goes for each a of its label.
+fn take_out(s: &mut [u64], labels: Table, x: usize) {
+    let set = cons(s, Table::Marking, x, bases_at(s, labels, x));
+    for r in 0..65 {
+        let old = get(s, cell(Table::Marking, x, r));
+        put(s, cell(Table::New, x, r), less(old, brought(old, set, r)));
     }
 }
 
 // (M(y) - F(y)) with F(x), of one side's label and the other's, goes to place 0 of the table.
-fn lay_between(s: &mut [u64], from: usize, to: usize, y: usize, x: usize) {
-    let mut r: usize = 0;
-    while r < 65 {
-        let stays = less(get(s, cell(MARKING, y, r)), get(s, cell(from, y, r)));
-        put(s, cell(CHANGED, 0, r), stays | get(s, cell(to, x, r)));
-        r += 1;
+fn lay_between(s: &mut [u64], from: Table, to: Table, y: usize, x: usize) {
+    for r in 0..65 {
+        let stays = less(get(s, cell(Table::Marking, y, r)), get(s, cell(from, y, r)));
+        put(
+            s,
+            cell(Table::Changed, 0, r),
+            stays | get(s, cell(to, x, r)),
+        );
     }
 }
 
 // Its bases of a set, with the bonds among them, go to place x.
 fn bring_to(s: &mut [u64], x: usize, set: u64) {
-    let mut r: usize = 0;
-    while r < 65 {
-        let old = get(s, cell(CHANGED, 0, r));
-        join(s, cell(NEW, x, r), brought(old, set, r));
-        r += 1;
+    for r in 0..65 {
+        let old = get(s, cell(Table::Changed, 0, r));
+        join(s, cell(Table::New, x, r), brought(old, set, r));
     }
 }
 
 // Into a place x: con(a, (M(y) - F(y)) with F(x)) for each a of both labels. 64 is place 0 again.
-fn bring(s: &mut [u64], from: usize, to: usize, y: usize, x: usize) {
+fn bring(s: &mut [u64], from: Table, to: Table, y: usize, x: usize) {
     let named = bases_at(s, from, y) & bases_at(s, to, x);
     if named != 0 {
         lay_between(s, from, to, y, x);
-        let set = cons(s, CHANGED, 0, named);
+        let set = cons(s, Table::Changed, 0, named);
         bring_to(s, x, set);
     }
 }
 
-fn put_in(s: &mut [u64], from: usize, to: usize) {
-    let n = size(s);
-    let mut i: usize = 0;
-    while i < n {
+// Out of every place, into the places, and the new marking is the marking.
+fn transfer(s: &mut [u64], from: Table, to: Table) {
+    for x in 0..size(s) / 65 {
+        take_out(s, from, x);
+    }
+    for i in 0..size(s) {
         bring(s, from, to, i / 65, i % 65);
-        i += 1;
     }
-}
-
-// The new marking is the marking.
-fn settle(s: &mut [u64]) {
-    let n = size(s);
-    let mut i: usize = 0;
-    while i < n {
-        put(s, at(MARKING, i), word_at(s, NEW, i));
-        i += 1;
-    }
-}
-
-fn transfer(s: &mut [u64], from: usize, to: usize) {
-    take_out(s, from);
-    put_in(s, from, to);
-    settle(s);
+    lay(s, Table::Marking, |s, i| word_at(s, Table::New, i));
 }
 
 // Definition 22.
 pub fn execute(s: &mut [u64]) {
-    transfer(s, INCOMING, OUTGOING);
+    transfer(s, Table::Incoming, Table::Outgoing);
 }
 
 // Definition 24.
 pub fn reverse(s: &mut [u64]) {
-    transfer(s, OUTGOING, INCOMING);
+    transfer(s, Table::Outgoing, Table::Incoming);
 }

@@ -2,22 +2,22 @@
 // and bases are taken below 64, so that any bytes may be handed in.
 ghost use Rattle.std.specs.Prelude.{◌≤◌};
 
-use crate::sets::{INCOMING, only};
+use crate::sets::{Table, only};
 
 pub fn byte(sheet: &[u8], at: usize) -> u8 {
-    if at < sheet.len() { sheet[at] } else { 0 }
+    sheet.get(at).copied().unwrap_or(0)
 }
 
 // A byte as an index below 64.
 pub fn index(sheet: &[u8], at: usize) -> usize {
-    byte(sheet, at) as usize % 64
+    count(sheet, at) % 64
 }
 
 // A byte as a count.
 pub fn count(sheet: &[u8], at: usize) -> usize
     ensures { result ≤ 255 }
 {
-    byte(sheet, at) as usize
+    byte(sheet, at).into()
 }
 
 // Two bytes, the low one first.
@@ -41,11 +41,23 @@ pub fn arc_count(sheet: &[u8], t: usize) -> usize
     count(sheet, begins(sheet, t))
 }
 
-// Byte k of an entry: 0 the base, 1 the place that it is taken from, 2 the place that it is put in.
-pub fn arc_byte(sheet: &[u8], t: usize, i: usize, k: usize) -> usize
-    requires { (i ≤ 255) × (k ≤ 255) }
+// An entry: a base, the place that it is taken from, and the place that it is put in.
+#[derive(Clone, Copy)]
+pub struct Arc {
+    pub base: usize,
+    pub from: usize,
+    pub to: usize,
+}
+
+pub fn arc_at(sheet: &[u8], t: usize, i: usize) -> Arc
+    requires { i ≤ 255 }
 {
-    index(sheet, begins(sheet, t) + 1 + 3 * i + k)
+    let at = begins(sheet, t) + 1 + 3 * i;
+    Arc {
+        base: index(sheet, at),
+        from: index(sheet, at + 1),
+        to: index(sheet, at + 2),
+    }
 }
 
 // Where the count of a transition's in-bonds stands, or of its out-bonds; the bonds follow their count.
@@ -55,25 +67,17 @@ pub fn in_bonds(sheet: &[u8], t: usize) -> usize
     begins(sheet, t) + 1 + 3 * arc_count(sheet, t)
 }
 
-pub fn bonds_of(sheet: &[u8], t: usize, table: usize) -> usize
+pub fn bonds_of(sheet: &[u8], t: usize, labels: Table) -> usize
     ensures { result ≤ 80000 }
 {
     let at = in_bonds(sheet, t);
-    if table == INCOMING {
-        at
-    } else {
-        at + 1 + 2 * count(sheet, at)
+    match labels {
+        Table::Incoming => at,
+        _ => at + 1 + 2 * count(sheet, at),
     }
 }
 
 // The bases of a transition's entries, which pre(t) and post(t) share.
 pub fn arc_bases(sheet: &[u8], t: usize) -> u64 {
-    let n = arc_count(sheet, t);
-    let mut all: u64 = 0;
-    let mut i: usize = 0;
-    while i < n {
-        all = all | only(arc_byte(sheet, t, i, 0));
-        i += 1;
-    }
-    all
+    (0..arc_count(sheet, t)).fold(0, |all, i| all | only(arc_at(sheet, t, i).base))
 }

@@ -5,21 +5,19 @@
 // bonded to b there.
 
 // The marking M; the labels F(x, t) and F(t, x) of all places x; the marking that is being made; the marking with one side's
-// labels off and the other's on, in which con is asked.
-pub const MARKING: usize = 0;
+// labels off and the other's on, in which con is asked; the unions pre(t) and post(t), in one place's 65 words.
+#[derive(Clone, Copy, PartialEq, Eq)]
+pub enum Table {
+    Marking,
+    Incoming,
+    Outgoing,
+    New,
+    Changed,
+    Pre,
+    Post,
+}
 
-pub const INCOMING: usize = 1;
-
-pub const OUTGOING: usize = 2;
-
-pub const NEW: usize = 3;
-
-pub const CHANGED: usize = 4;
-
-// The unions pre(t) and post(t), in one place's 65 words.
-pub const PRE: usize = 5;
-
-pub const POST: usize = 6;
+pub const MARKING: Table = Table::Marking;
 
 // The set of one thing.
 pub fn only(a: usize) -> u64 {
@@ -27,7 +25,7 @@ pub fn only(a: usize) -> u64 {
 }
 
 pub fn has(set: u64, a: usize) -> bool {
-    (set >> (a % 64)) % 2 == 1
+    set & only(a) != 0
 }
 
 // What the first set has and the second has not.
@@ -35,13 +33,20 @@ pub fn less(set: u64, gone: u64) -> u64 {
     set & !gone
 }
 
+// What a function gives for each number below n, all in one set.
+pub(crate) fn union<F: Fn(usize) -> u64>(n: usize, f: F) -> u64
+    requires { F.IsAlwaysCallable f }
+{
+    (0..n).fold(0, |all, i| all | f(i))
+}
+
 pub fn get(s: &[u64], at: usize) -> u64 {
-    if at < s.len() { s[at] } else { 0 }
+    s.get(at).copied().unwrap_or(0)
 }
 
 pub fn put(s: &mut [u64], at: usize, value: u64) {
-    if at < s.len() {
-        s[at] = value;
+    if let Some(word) = s.get_mut(at) {
+        *word = value;
     }
 }
 
@@ -59,55 +64,57 @@ pub fn size(s: &[u64]) -> usize {
 }
 
 // Where word i of a table stands.
-pub fn at(table: usize, i: usize) -> usize {
-    (table % 7) * 4160 + i % 4160
+pub fn at(table: Table, i: usize) -> usize {
+    table as usize * 4160 + i % 4160
 }
 
-pub fn word_at(s: &[u64], table: usize, i: usize) -> u64 {
+// Gives each word of a table its value, one after another.
+pub(crate) fn lay<F: Fn(&[u64], usize) -> u64>(s: &mut [u64], table: Table, word: F)
+    requires { F.IsAlwaysCallable word }
+{
+    for i in 0..size(s) {
+        let value = word(s, i);
+        put(s, at(table, i), value);
+    }
+}
+
+pub fn word_at(s: &[u64], table: Table, i: usize) -> u64 {
     get(s, at(table, i))
 }
 
 // Where a row of a place stands.
-pub fn cell(table: usize, place: usize, row: usize) -> usize {
+pub fn cell(table: Table, place: usize, row: usize) -> usize {
     at(table, (place % 64) * 65 + row % 65)
 }
 
-pub fn bases_at(s: &[u64], table: usize, place: usize) -> u64 {
+pub fn bases_at(s: &[u64], table: Table, place: usize) -> u64 {
     get(s, cell(table, place, 0))
 }
 
-pub fn bonds_at(s: &[u64], table: usize, place: usize, base: usize) -> u64 {
+pub fn bonds_at(s: &[u64], table: Table, place: usize, base: usize) -> u64 {
     get(s, cell(table, place, 1 + base % 64))
 }
 
-fn home(s: &[u64], table: usize, base: usize, place: usize) -> u64 {
-    let here = bases_at(s, table, place);
-    if has(here, base) { only(place) } else { 0 }
+fn is_home(s: &[u64], table: Table, base: usize, place: usize) -> bool {
+    has(bases_at(s, table, place), base)
 }
 
 // The places that have a base, as a set.
-pub fn homes(s: &[u64], table: usize, base: usize) -> u64 {
-    let mut all: u64 = 0;
-    let mut x: usize = 0;
-    while x < 64 {
-        all = all | home(s, table, base, x);
-        x += 1;
-    }
-    all
+pub fn homes(s: &[u64], table: Table, base: usize) -> u64 {
+    let home = |x| if is_home(s, table, base, x) {
+        only(x)
+    } else {
+        0
+    };
+    union(64, home)
 }
 
 // The least place that has a base; 0 where none has it.
-pub fn home_of(s: &[u64], table: usize, base: usize) -> usize {
-    (u64::trailing_zeros(homes(s, table, base)) % 64) as usize
+pub fn home_of(s: &[u64], table: Table, base: usize) -> usize {
+    (0..64).find(|&x| is_home(s, table, base, x)).unwrap_or(0)
 }
 
 // The bases that are bonded to a base in any place.
 pub fn partners(s: &[u64], base: usize) -> u64 {
-    let mut all: u64 = 0;
-    let mut x: usize = 0;
-    while x < 64 {
-        all = all | bonds_at(s, MARKING, x, base);
-        x += 1;
-    }
-    all
+    union(64, |x| bonds_at(s, MARKING, x, base))
 }

@@ -1,9 +1,0 @@
--- `oracle::history::latest` meets its contract. The counter stays within its bound.
-use Prim.Native.Nat.{◌-◌, ◌≤◌}
-use Rattle.oracle.proofs.history.latest.Given as goal
-
-abbrev pub invariant-loop-i : goal.invariant-loop-i
-invariant-loop-i l = l.i ≤ 256
-
-abbrev pub decreases-loop-i : goal.decreases-loop-i
-decreases-loop-i l = 256 - l.i

@@ -1,9 +1,0 @@
--- `oracle::sets::homes` meets its contract. The counter stays within its bound.
-use Prim.Native.Nat.{◌-◌, ◌≤◌}
-use Rattle.oracle.proofs.sets.homes.Given as goal
-
-abbrev pub invariant-loop-x : goal.invariant-loop-x
-invariant-loop-x l = l.x ≤ 64
-
-abbrev pub decreases-loop-x : goal.decreases-loop-x
-decreases-loop-x l = 64 - l.x
