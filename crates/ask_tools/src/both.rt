@@ -1,5 +1,5 @@
-// What a question is asked of, in both ways: a record on a sheet, and the second engine's state after the same commands.
-// Passed on as one, since no question needs less.
+// A session on both engines: a record on a sheet, and the second engine's state after the same commands.
+// What questions are asked of.
 use oracle::STATE;
 use session::Record;
 
@@ -7,5 +7,5 @@ use session::Record;
 pub struct Both<'a> {
     pub record: Record,
     pub sheet: &'a [u8],
-    pub state: &'a [u64; STATE],
+    pub state: [u64; STATE],
 }
