@@ -3,8 +3,8 @@
 // is a sum of the numbers there, of 256 where the block is not run, and 512 for an answer.
 use crate::compare::differs;
 use crate::input::lay_commands;
-use case_records::heard::{HEARD, SAID, begun, keep_tally, tally_in};
-use case_tools::bytes::byte;
+use ask_tools::both::Both;
+use case_records::heard::{SAID, begun, keep_tally, tally_in};
 use case_tools::counts::{judged, more, unless};
 use generated::rows::{TALLY, noted, part, reply_noted};
 use oracle::sets::get;
@@ -15,54 +15,50 @@ use session_start::start;
 const MOST: usize = 1000;
 
 // Whether entry i has the answer, or what it had where there is none: 7 and 777.
-fn entry_holds(word: u8, value: u16, w: &[u64], i: usize) -> bool {
-    if (i as u64) < noted(w) {
-        return word as u64 * 65536 + value as u64 == reply_noted(w, i as u64);
+fn entry_holds(word: u8, value: u16, w: &[u64], i: u64) -> bool {
+    if i < noted(w) {
+        u64::from(word) * 65536 + u64::from(value) == reply_noted(w, i)
+    } else {
+        word == 7 && value == 777
     }
-    (word == 7) & (value == 777)
 }
 
 fn same_answers(words: &[u8; MOST], values: &[u16; MOST], w: &[u64]) -> bool {
-    let mut same = true;
-    let mut i = 0;
-    while i < MOST {
-        same = same & entry_holds(words[i], values[i], w, i);
-        i += 1;
-    }
-    same
+    (0..MOST).all(|i| entry_holds(words[i], values[i], w, i as u64))
 }
 
 // What the block gave, with the last answer of those given singly.
-fn block_differs(x: BlockCounted, w: &[u64], s: &[u64], bases: usize) -> u64 {
+fn block_differs(x: BlockCounted, w: &[u64], b: &Both) -> u64 {
     let n = noted(w);
     let last = reply_noted(w, n + 65535);
     let mut h = begun(0);
     h[SAID] = last;
-    let t = x.tally;
-    keep_tally(&mut h, t);
+    keep_tally(&mut h, x.tally);
     let o = x.outcome;
-    let a = o.answer;
-    let ran = unless((a.number() == 0) & (o.count as u64 == n), 256);
-    ran | differs(o.session, &h, last, s, bases)
+    let ran = o.answer.number() == 0 && o.count as u64 == n;
+    let left = Both {
+        record: o.session,
+        ..*b
+    };
+    unless(ran, 256) | differs(&left, &h, last)
 }
 
 // Blocks are counted in 8.
-fn handed_in(c: &mut [u64], w: &[u64], sheet: &[u8], s: &[u64], block: &[u8]) {
+fn handed_in(c: &mut [u64], w: &[u64], b: &Both, block: &[u8]) {
     let mut words = [7u8; MOST];
     let mut values = [777u16; MOST];
-    let fresh = start(sheet);
-    let r = fresh.session;
-    let first = begun(get(w, TALLY) % 65536);
-    let x = block_with(r, sheet, block, tally_in(&first), &mut words, &mut values);
-    let what = block_differs(x, w, s, byte(sheet, 2) as usize);
+    let r = start(b.sheet).session;
+    let tally = tally_in(&begun(get(w, TALLY) % 65536));
+    let x = block_with(r, b.sheet, block, tally, &mut words, &mut values);
+    let what = block_differs(x, w, b);
     let answers = unless(same_answers(&words, &values, w), 512);
     more(c, 8, 1, true);
     judged(c, noted(w), 0, 0, what | answers);
 }
 
 // The session's commands as a block.
-pub fn ask(c: &mut [u64], w: &[u64], sheet: &[u8], s: &[u64]) {
+pub fn ask(c: &mut [u64], w: &[u64], b: &Both) {
     let mut block = [0u8; 3000];
     let length = lay_commands(&mut block, 0, w);
-    handed_in(c, w, sheet, s, part(&block, 0, length));
+    handed_in(c, w, b, part(&block, 0, length));
 }

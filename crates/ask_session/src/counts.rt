@@ -6,7 +6,7 @@ use oracle::sets::less;
 use oracle::{FIRED, REFUSED, UNDONE, highest, moved_at, slot_of, tally_at, transition_at};
 
 fn is_full_size(sheet: &[u8]) -> bool {
-    (count(sheet, 1) == 64) & ((count(sheet, 2) == 64) & (count(sheet, 3) == 64))
+    count(sheet, 1) == 64 && count(sheet, 2) == 64 && count(sheet, 3) == 64
 }
 
 fn is_full(s: &[u64], word: u64) -> bool {
@@ -15,10 +15,7 @@ fn is_full(s: &[u64], word: u64) -> bool {
 
 // Whether a key was given before this one and is not live.
 fn follows_gap(s: &[u64], key: u64) -> bool {
-    if key < 2 {
-        return false;
-    }
-    slot_of(s, key - 1) == 256
+    2 <= key && slot_of(s, key - 1) == 256
 }
 
 // Firings that carried a base which is no entry, of a transition that has an in-bond, on a sheet with 64 of everything; that made 256 live;
@@ -38,32 +35,28 @@ fn count_fired(c: &mut [u64], sheet: &[u8], s: &[u64], key: u64) {
 // ones from the middle, where a higher key is left: 24 to 27 (document 02, T-07).
 fn count_broken(c: &mut [u64], s: &[u64], word: u64, key: u64) {
     let broke = oracle::broken(s) != 0;
-    let undone = (word == UNDONE) & broke;
-    more(c, 24, 1, (word == FIRED) & broke);
-    more(c, 25, 1, (word == FIRED) & (oracle::parted(s) != 0));
+    let undone = word == UNDONE && broke;
+    more(c, 24, 1, word == FIRED && broke);
+    more(c, 25, 1, word == FIRED && oracle::parted(s) != 0);
     more(c, 26, 1, undone);
-    more(c, 27, 1, undone & (key < highest(s)));
+    more(c, 27, 1, undone && key < highest(s));
 }
 
 // One more command, with the second engine's reply and its state afterwards. Answers: 8 fired, 9 undone, 32 and the number for refusals.
 // Commands after which a count of the tally is 65,535; 18 with nothing live: 22 and 23.
 pub fn count_command(c: &mut [u64], sheet: &[u8], s: &[u64], reply: u64) {
-    let full = is_full(s, 0) | (is_full(s, 1) | is_full(s, 2));
-    let row = if reply < 131072 {
-        8 + reply / 65536
-    } else {
-        32 + reply % 32
+    let full = is_full(s, FIRED) || is_full(s, UNDONE) || is_full(s, REFUSED);
+    let last = reply == oracle::reply(REFUSED, 18);
+    let row = match reply / 65536 {
+        FIRED => 8,
+        UNDONE => 9,
+        _ => 32 + (reply % 32) as usize,
     };
-    more(c, row as usize, 1, true);
+    more(c, row, 1, true);
     more(c, 22, 1, full);
-    more(
-        c,
-        23,
-        1,
-        (reply == oracle::reply(REFUSED, 18)) & (oracle::live(s) == 0),
-    );
+    more(c, 23, 1, last && oracle::live(s) == 0);
     count_broken(c, s, reply / 65536, reply % 65536);
-    if reply < 65536 {
+    if reply / 65536 == FIRED {
         count_fired(c, sheet, s, reply);
     }
 }

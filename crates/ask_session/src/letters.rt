@@ -10,45 +10,42 @@ use generated::rows::{RAISE, letter_at, noted};
 use oracle::sets::get;
 use session::Record;
 
-// What serials are raised to before the next command; 0 where they are not.
-pub fn raise_at(c: &[u64], w: &[u64]) -> u64 {
-    let i = noted(w) + 1;
-    if letter_at(w, i) == b'r' as u64 {
-        return 65534;
+// The letter of the next command.
+fn next_letter(w: &[u64]) -> Option<u8> {
+    match (letter_at(w, noted(w) + 1) % 256) as u8 {
+        0 => None,
+        letter => Some(letter),
     }
-    if letter_at(w, i) == b't' as u64 {
-        return 65535;
-    }
-    let by_lot = 65530 + get(c, SEED) % 6;
-    if i == get(w, RAISE) { by_lot } else { 0 }
 }
 
-pub fn letter_command(letter: u64) -> u64 {
-    if letter == b'u' as u64 {
-        return made(2, 0, 3);
+// What serials are raised to before the next command.
+pub fn raise_at(c: &[u64], w: &[u64]) -> Option<u16> {
+    match next_letter(w) {
+        Some(b'r') => Some(65534),
+        Some(b't') => Some(65535),
+        _ if noted(w) + 1 == get(w, RAISE) => Some(65530 + (get(c, SEED) % 6) as u16),
+        _ => None,
     }
-    if letter == b'a' as u64 {
-        return made(3, 65534, 3);
-    }
-    if letter == b'b' as u64 {
-        return made(3, 65535, 3);
-    }
-    made(1, 2, 3)
 }
 
-// The record with a higher key in the last live firing, if there is one, and a highest given that is not below it: it stays sound. Not
-// where the key is 0.
-pub fn raised(r: Record, raise: u64) -> Record {
-    let key = (raise % 65536) as u16;
-    let f = r.firings;
-    let given = r.given;
-    if key == 0 {
-        return r;
-    }
-    let last = if given.0 < key { key } else { given.0 };
-    if f.live == 0 {
+// The next command, where it has a letter.
+pub fn letter_command(w: &[u64]) -> Option<u64> {
+    let command = match next_letter(w)? {
+        b'u' => made(2, 0, 3),
+        b'a' => made(3, 65534, 3),
+        b'b' => made(3, 65535, 3),
+        _ => made(1, 2, 3),
+    };
+    Some(command)
+}
+
+// The record with a higher key in the last live firing, if there is one, and a highest given that is not below it: it stays sound.
+pub fn raised(r: Record, key: u16) -> Record {
+    let last = r.given.0.max(key);
+    let live = r.firings.live;
+    if live == 0 {
         with_given(r, last)
     } else {
-        with_given(with_key(r, f.live % 256 + 255, key), last)
+        with_given(with_key(r, live % 256 + 255, key), last)
     }
 }

@@ -1,6 +1,6 @@
 // What a session comes to on both engines: everything that they answer and hold compared after each command (compare, live), what is counted
 // of it (counts), commands by letters (letters); the session's commands as one block (blocks), and as an input of the exam program with
-// its whole output (outputs, input, lines, writer).
+// its whole output (outputs, input, lines).
 #![tactic(auto)]
 
 mod blocks;
@@ -11,22 +11,19 @@ pub mod letters;
 mod lines;
 mod live;
 pub mod outputs;
-mod writer;
 
-use generated::rows::KIND;
-use oracle::sets::get;
+use ask_tools::both::Both;
 
-// The kinds of rows: sessions, of which nothing is asked; their commands as a block, or as an input.
-pub const SESSION: u64 = 1;
+// How a session's commands are given once more, all together: as a block, or as an input.
+#[derive(Clone, Copy, PartialEq, Eq)]
+pub enum Together {
+    Block,
+    Input,
+}
 
-pub const BLOCKS: u64 = 2;
-
-pub const OUTPUTS: u64 = 3;
-
-pub fn ask(c: &mut [u64], w: &[u64], sheet: &[u8], s: &[u64]) {
-    if get(w, KIND) == BLOCKS {
-        blocks::ask(c, w, sheet, s);
-    } else if get(w, KIND) == OUTPUTS {
-        outputs::ask(c, w, sheet, s);
+pub fn ask(c: &mut [u64], w: &[u64], b: &Both, how: Together) {
+    match how {
+        Together::Block => blocks::ask(c, w, b),
+        Together::Input => outputs::ask(c, w, b),
     }
 }

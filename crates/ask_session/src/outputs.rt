@@ -1,34 +1,23 @@
 // Inputs through the program's own path (`output::write_output`), and their outputs compared with a text, byte for byte: the
 // second engine's, or one that document 01 prints or that follows from it. At the most commands that the program reads, how long
 // the output is, and its end, are printed.
-use crate::input::{TEXT, lay_input, lay_text};
+use crate::input::lay_input;
+use crate::lines::{Text, put_output};
+use ask_tools::both::Both;
 use case_tools::bytes::{byte, put_all};
 use case_tools::counts::{judged, more, unless};
-use generated::rows::{find, part};
+use generated::rows::part;
 use output::{MAX_OUTPUT, write_output};
 use samples::sheet_a;
 
-// Where two texts first differ; n where they do not before it. Past its end a text reads as 0.
-fn first_difference(a: &[u8], b: &[u8], n: usize) -> usize {
-    let mut i: usize = 0;
-    while i < n {
-        if byte(a, i) != byte(b, i) {
-            return i;
-        }
-        i += 1;
-    }
-    n
-}
-
-// At the first byte that differs. The bytes of all outputs are counted in 8.
+// At the first byte that differs; past its end a text reads as 0. The bytes of all outputs are counted in 8.
 fn judge(c: &mut [u64], ours: &[u8], theirs: &[u8]) {
-    let k = ours.len();
-    let n = if k < theirs.len() { theirs.len() } else { k };
-    let at = first_difference(ours, theirs, n);
-    let a = byte(ours, at) as u64;
-    let b = byte(theirs, at) as u64;
-    more(c, 8, k as u64, true);
-    judged(c, at as u64, a, b, unless(at == n, 1));
+    let n = ours.len().max(theirs.len());
+    let differs = (0..n).find(|&i| byte(ours, i) != byte(theirs, i));
+    let at = differs.unwrap_or(n);
+    let (a, b) = (byte(ours, at), byte(theirs, at));
+    more(c, 8, ours.len() as u64, true);
+    judged(c, at as u64, u64::from(a), u64::from(b), unless(at == n, 1));
 }
 
 fn output_room() -> [u8; MAX_OUTPUT] {
@@ -43,11 +32,15 @@ fn compare_output(c: &mut [u64], input: &[u8], text: &[u8]) {
 }
 
 // The session's commands as an input. Where input or text does not fit its room, that shows as a difference.
-pub fn ask(c: &mut [u64], w: &[u64], sheet: &[u8], s: &[u64]) {
-    let mut buf = [0u8; 105536];
-    let end = lay_text(&mut buf, sheet, s, w);
-    let length = lay_input(&mut buf, sheet, w);
-    compare_output(c, part(&buf, 0, length), part(&buf, TEXT, end));
+pub fn ask(c: &mut [u64], w: &[u64], b: &Both) {
+    let mut input = [0u8; 40000];
+    let length = lay_input(&mut input, b.sheet, w);
+    let mut text = Text::new();
+    let theirs = match put_output(&mut text, w, b) {
+        Ok(()) => text.as_str(),
+        Err(_) => "",
+    };
+    compare_output(c, part(&input, 0, length), theirs.as_bytes());
 }
 
 // Sheet A behind its length, 42 bytes, and document 01's six commands: 60 bytes.
@@ -64,28 +57,30 @@ fn printed_input() -> [u8; 60] {
     input
 }
 
-// A case is how many bytes of the input are given, and the text, to a 0.
-fn printed_cases(c: &mut [u64], cases: &[u8]) {
-    let input = printed_input();
-    let n = cases.len();
-    let mut at: usize = 0;
-    while at < n {
-        let size = byte(cases, at) as usize;
-        let end = find(cases, at + 1, 0);
-        compare_output(c, part(&input, 0, size), part(cases, at + 1, end));
-        if n <= end {
-            return;
-        }
-        at = end + 1;
-    }
-}
-
-// Document 01's whole example, the same without the last command's last byte, and inputs that end before the sheet does.
+// Document 01's whole example, the same without the last command's last byte, and inputs that end before the sheet does: how many bytes of
+// the input are given, and the text.
 pub fn printed(c: &mut [u64]) {
-    printed_cases(
-        c,
-        b"\x3c1 fired 1\n2 fired 2\n3 undone 1\n4 fired 3\n5 refused 19\n6 undone 3\nplaces 0 0 1\nlive 2\ntally 3 2 1\n\x00\x3b1 fired 1\n2 fired 2\n3 undone 1\n4 fired 3\n5 refused 19\n6 refused 21\nplaces 1 1 1\nbond 0 1\nlive 2 3\ntally 3 1 2\n\x00\x2aplaces 0 0 0\nlive\ntally 0 0 0\n\x00\x29sheet refused 4\n\x00\x06sheet refused 4\n\x00\x05sheet refused 1\n\x00\x02sheet refused 1\n\x00\x01sheet refused 1\n\x00\x00sheet refused 1\n\x00",
-    );
+    let input = printed_input();
+    let cases: [(usize, &[u8]); 9] = [
+        (
+            60,
+            b"1 fired 1\n2 fired 2\n3 undone 1\n4 fired 3\n5 refused 19\n6 undone 3\nplaces 0 0 1\nlive 2\ntally 3 2 1\n",
+        ),
+        (
+            59,
+            b"1 fired 1\n2 fired 2\n3 undone 1\n4 fired 3\n5 refused 19\n6 refused 21\nplaces 1 1 1\nbond 0 1\nlive 2 3\ntally 3 1 2\n",
+        ),
+        (42, b"places 0 0 0\nlive\ntally 0 0 0\n"),
+        (41, b"sheet refused 4\n"),
+        (6, b"sheet refused 4\n"),
+        (5, b"sheet refused 1\n"),
+        (2, b"sheet refused 1\n"),
+        (1, b"sheet refused 1\n"),
+        (0, b"sheet refused 1\n"),
+    ];
+    for (size, text) in cases {
+        compare_output(c, part(&input, 0, size), text);
+    }
 }
 
 // Room for the sheet's length, sheet A and 65,536 commands. Bytes that no command has as its kind, everywhere.

@@ -9,37 +9,32 @@ use session::Record;
 
 // The place of part p is one higher.
 fn with_place(r: Record, p: usize) -> Record {
-    let mut m = r.marking;
-    let old = m.places[p % 64];
-    m.places[p % 64] = (old as u16 % 255 + 1) as u8;
     let mut next = r;
-    next.marking = m;
+    let old = r.marking.places[p % 64];
+    next.marking.places[p % 64] = (u16::from(old) % 255 + 1) as u8;
     next
 }
 
 // The last mover of part p.
 fn with_mover(r: Record, p: usize, key: u16) -> Record {
-    let mut movers = r.movers;
-    movers[p % 64] = key;
     let mut next = r;
-    next.movers = movers;
+    next.movers[p % 64] = key;
     next
 }
 
 // Other firings.
 pub fn with_firings(r: Record, f: Firings) -> Record {
-    let movers = last_movers(f.live, &f.keys, &f.moved);
-    let mut next = r;
-    next.firings = f;
-    next.movers = movers;
-    next
+    Record {
+        firings: f,
+        movers: last_movers(f.live, &f.keys, &f.moved),
+        ..r
+    }
 }
 
 // Firing i moved part p, where it did not, or did not, where it did. Past the live firings it is an unused entry that does not hold 0.
 fn with_moved(r: Record, i: usize, p: usize) -> Record {
     let mut f = r.firings;
-    let old = f.moved[i % 256];
-    f.moved[i % 256] = old ^ only(p);
+    f.moved[i % 256] ^= only(p);
     with_firings(r, f)
 }
 
@@ -52,54 +47,64 @@ pub fn with_key(r: Record, i: usize, key: u16) -> Record {
 
 // The highest serial given.
 pub fn with_given(r: Record, key: u16) -> Record {
-    let given = Key(key);
-    let mut next = r;
-    next.given = given;
-    next
+    Record {
+        given: Key(key),
+        ..r
+    }
 }
 
 // The next live serial, or the first; 0 where none is live.
-fn another(s: &[u64], old: u64) -> u64 {
-    let key = key_after(s, old);
-    if key == NO_KEY { key_after(s, 0) } else { key }
-}
-
-// The last mover of part p is one more, or another live serial.
-fn other_mover(r: Record, s: &[u64], p: usize, next: bool) -> Record {
-    let movers = r.movers;
-    let old = movers[p % 64] as u64 % 65536;
-    let new = if next { old + 1 } else { another(s, old) };
-    with_mover(r, p, (new % 65536) as u16)
+fn another(s: &[u64], old: u16) -> u64 {
+    match key_after(s, u64::from(old)) {
+        NO_KEY => key_after(s, 0),
+        key => key,
+    }
 }
 
 // No serial was given though a firing is live.
 fn none_given(r: Record) -> Record {
-    let f = r.firings;
-    if f.live == 0 { r } else { with_given(r, 0) }
+    if r.firings.live == 0 {
+        r
+    } else {
+        with_given(r, 0)
+    }
 }
 
-// How many ways there are to change a record at a part: the last mover, the place, moved parts of the first firing and of the one of the
-// part's number, the first firing's serial, the highest given.
-pub const WAYS: usize = 8;
+// What is changed at a part: the last mover, which is one more, another live serial or none; the place; a moved part of the first firing,
+// and of the one of the part's number; the first firing's serial; the highest given.
+#[derive(Clone, Copy)]
+pub enum Way {
+    MoverOneMore,
+    OtherMover,
+    NoMover,
+    Place,
+    FirstMoved,
+    Moved,
+    NoKey,
+    NoneGiven,
+}
 
-pub fn altered(r: Record, s: &[u64], which: usize, p: usize) -> Record {
-    if which < 2 {
-        return other_mover(r, s, p, which == 0);
+pub const WAYS: [Way; 8] = [
+    Way::MoverOneMore,
+    Way::OtherMover,
+    Way::NoMover,
+    Way::Place,
+    Way::FirstMoved,
+    Way::Moved,
+    Way::NoKey,
+    Way::NoneGiven,
+];
+
+pub fn altered(r: Record, s: &[u64], way: Way, p: usize) -> Record {
+    let mover = r.movers[p % 64];
+    match way {
+        Way::MoverOneMore => with_mover(r, p, mover.wrapping_add(1)),
+        Way::OtherMover => with_mover(r, p, (another(s, mover) % 65536) as u16),
+        Way::NoMover => with_mover(r, p, 0),
+        Way::Place => with_place(r, p),
+        Way::FirstMoved => with_moved(r, 0, p),
+        Way::Moved => with_moved(r, p, p),
+        Way::NoKey => with_key(r, 0, 0),
+        Way::NoneGiven => none_given(r),
     }
-    if which == 2 {
-        return with_mover(r, p, 0);
-    }
-    if which == 3 {
-        return with_place(r, p);
-    }
-    if which == 4 {
-        return with_moved(r, 0, p);
-    }
-    if which == 5 {
-        return with_moved(r, p, p);
-    }
-    if which == 6 {
-        return with_key(r, 0, 0);
-    }
-    none_given(r)
 }

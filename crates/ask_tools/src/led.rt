@@ -25,20 +25,15 @@ pub fn go_on(p: Led, sheet: &[u8], bytes: &[u8], reply: u64) -> Led {
     if !p.holds {
         return p;
     }
-    let r = p.session;
     let mut h = [0u64; HEARD];
     Led {
-        session: commanded(r, sheet, bytes, &mut h),
+        session: commanded(p.session, sheet, bytes, &mut h),
         count: p.count % 65536 + 1,
         holds: h[SAID] == reply,
     }
 }
 
-// A firing is taken back by its serial, where it is one that goes.
-pub fn take_back(p: Led, sheet: &[u8], key: u64, goes: bool) -> Led {
-    if !goes {
-        return p;
-    }
-    let bytes = undo_bytes(key);
-    go_on(p, sheet, &bytes, reply(UNDONE, key))
+// A firing is taken back by its serial.
+pub fn take_back(p: Led, sheet: &[u8], key: u64) -> Led {
+    go_on(p, sheet, &undo_bytes(key), reply(UNDONE, key))
 }

@@ -3,7 +3,6 @@
 // that firing, and in the end every part that the layout names is to be at its place. What differs is a sum: 1 the
 // number, 2 the count, 4 the keys, 8 a command, 16 a place.
 use ask_tools::led::{Led, led_to, take_back};
-use case_tools::bytes::byte;
 use case_tools::counts::unless;
 use net::{Key, MAX_BASES, MAX_LIVE};
 use oracle::sets::get;
@@ -11,65 +10,54 @@ use questions::way_back;
 use session::Record;
 use way_back::WayBack;
 
-// The first n keys are taken back, in their order.
-fn gone(r: Record, sheet: &[u8], keys: &[u64], n: usize) -> Led {
-    let mut p = led_to(r);
-    let mut i: usize = 0;
-    while i < n {
-        p = take_back(p, sheet, get(keys, i), true);
-        i += 1;
-    }
-    p
+// The answer that is expected: the number of the refusal, if it is one, and the keys.
+#[derive(Clone, Copy)]
+pub struct Expected<'a> {
+    pub refusal: Option<u64>,
+    pub keys: &'a [u64],
+}
+
+// The keys are taken back, in their order.
+fn gone(r: Record, sheet: &[u8], keys: &[u64]) -> Led {
+    keys.iter()
+        .fold(led_to(r), |p, &key| take_back(p, sheet, key))
 }
 
 // Whether each part that the layout names is at its place.
 fn all_there(places: [u8; MAX_BASES], layout: &[u8]) -> bool {
-    let mut there = true;
-    let mut b: usize = 0;
-    while b < MAX_BASES {
-        let x = byte(layout, b);
-        there = there & ((x == 255) | ((places[b] == x) | (layout.len() <= b)));
-        b += 1;
-    }
-    there
+    layout
+        .iter()
+        .zip(places.iter())
+        .all(|(&wanted, &place)| wanted == 255 || place == wanted)
 }
 
 // What differs on the way.
-fn going_differs(r: Record, sheet: &[u8], layout: &[u8], keys: &[u64], n: usize) -> u64 {
-    let p = gone(r, sheet, keys, n);
-    let s = p.session;
-    let m = s.marking;
-    let places = m.places;
-    unless(p.holds, 8) | unless(all_there(places, layout), 16)
+fn going_differs(r: Record, sheet: &[u8], layout: &[u8], keys: &[u64]) -> u64 {
+    let p = gone(r, sheet, keys);
+    unless(p.holds, 8) | unless(all_there(p.session.marking.places, layout), 16)
 }
 
+// Whether these are our keys; the entries after them hold 0.
 fn same_keys(ours: [Key; MAX_LIVE], keys: &[u64]) -> bool {
-    let mut same = true;
-    let mut i: usize = 0;
-    while i < MAX_LIVE {
-        let k = ours[i];
-        same = same & (k.0 as u64 == get(keys, i));
-        i += 1;
-    }
-    same
+    ours.iter()
+        .enumerate()
+        .all(|(i, k)| u64::from(k.0) == get(keys, i))
 }
 
-fn way_differs(w: WayBack, number: u64, keys: &[u64], n: usize) -> u64 {
-    let a = w.answer;
-    let ours = w.keys;
-    let answer = unless(a.number() as u64 == number, 1);
-    answer | (unless(w.count == n, 2) | unless(same_keys(ours, keys), 4))
+fn way_differs(w: WayBack, expected: Expected) -> u64 {
+    let number = u64::from(w.answer.number());
+    let answer = unless(number == expected.refusal.unwrap_or(0), 1);
+    let count = unless(w.count == expected.keys.len(), 2);
+    answer | count | unless(same_keys(w.keys, expected.keys), 4)
 }
 
-// What differs on a record, with the number and the n keys that are expected, and above it our number, 32 times. Nothing is gone where a
-// refusal is expected.
-pub fn judge(r: Record, sheet: &[u8], layout: &[u8], number: u64, keys: &[u64], n: usize) -> u64 {
+// Our number, and what differs on a record. Nothing is gone where a refusal is expected.
+pub fn judge(r: Record, sheet: &[u8], layout: &[u8], expected: Expected) -> (u64, u64) {
     let w = way_back(r, sheet, layout);
-    let a = w.answer;
-    let way = a.number() as u64 * 32 | way_differs(w, number, keys, n);
-    if number == 0 {
-        way | going_differs(r, sheet, layout, keys, n)
-    } else {
-        way
-    }
+    let way = way_differs(w, expected);
+    let going = match expected.refusal {
+        Some(_) => 0,
+        None => going_differs(r, sheet, layout, expected.keys),
+    };
+    (u64::from(w.answer.number()), way | going)
 }

@@ -5,82 +5,74 @@
 mod counts;
 mod judge;
 
+use ask_tools::both::Both;
 use case_tools::bytes::{byte, put};
 use case_tools::counts::{SEED, judged};
 use counts::count_set;
 use generated::rows::{ALL, LAYOUTS, part};
-use judge::judge;
+use judge::{Expected, judge};
 use least_sets::draws::lay_layout;
 use least_sets::least::{lay_wanted, least_for, number_for};
 use least_sets::table::{MOST, SETS, lay_table};
-use oracle::STATE;
 use oracle::sets::get;
-use session::Record;
 
-// Question j, for a layout with its least set.
-fn settle(
-    c: &mut [u64],
-    r: Record,
-    sheet: &[u8],
-    layout: &[u8],
-    table: &[u64],
-    keys: &[u64],
-    j: u64,
-) {
-    let set = least_for(table, layout, 0, layout.len());
-    count_set(c, table, layout, set);
-    let number = number_for(table, layout, set);
-    let mut wanted = [0u64; 256];
-    let n = lay_wanted(&mut wanted, keys, set);
-    let what = judge(r, sheet, layout, number, &wanted, n);
-    judged(c, j, what / 32, number, what % 32);
+// The sets of live firings, and the keys of these, the highest first.
+#[derive(Clone, Copy)]
+struct Sets<'a> {
+    both: &'a Both<'a>,
+    table: &'a [u64],
+    keys: &'a [u64],
 }
 
-// Layout j, of all or by lot.
-fn question(
-    c: &mut [u64],
-    r: Record,
-    sheet: &[u8],
-    table: &[u64],
-    keys: &[u64],
-    j: u64,
-    all: bool,
-) {
-    let mut buf = [0u8; 64];
-    lay_layout(&mut buf, sheet, table, get(c, SEED), j, all);
-    let layout = part(&buf, 0, byte(sheet, 2) as usize);
-    settle(c, r, sheet, layout, table, keys, j);
-}
+impl Sets<'_> {
+    // Question j, for a layout with its least set.
+    fn settle(&self, c: &mut [u64], layout: &[u8], j: u64) {
+        let set = least_for(self.table, layout, 0, layout.len());
+        count_set(c, self.table, layout, set);
+        let number = number_for(self.table, layout, set);
+        let mut wanted = [0u64; 256];
+        let n = lay_wanted(&mut wanted, self.keys, set).min(256);
+        let expected = Expected {
+            refusal: if number == 0 { None } else { Some(number) },
+            keys: &wanted[..n],
+        };
+        let (ours, what) = judge(self.both.record, self.both.sheet, layout, expected);
+        judged(c, j, ours, number, what);
+    }
 
-fn questions(c: &mut [u64], w: &[u64], r: Record, sheet: &[u8], table: &[u64], keys: &[u64]) {
-    let n = get(w, LAYOUTS);
-    let all = get(w, ALL) != 0;
-    let mut j: u64 = 0;
-    while j < n {
-        question(c, r, sheet, table, keys, j, all);
-        j += 1;
+    // Layout j, of all or by lot.
+    fn question(&self, c: &mut [u64], j: u64, all: bool) {
+        let sheet = self.both.sheet;
+        let mut buf = [0u8; 64];
+        lay_layout(&mut buf, sheet, self.table, get(c, SEED), j, all);
+        self.settle(c, part(&buf, 0, usize::from(byte(sheet, 2))), j);
     }
 }
 
 // So many layouts as the row says. At most ten firings are live.
-pub fn ask(c: &mut [u64], w: &[u64], r: Record, sheet: &[u8], s: &[u64; STATE]) {
+pub fn ask(c: &mut [u64], w: &[u64], b: &Both) {
     let mut keys = [0u64; MOST];
     let mut table = [0u64; SETS];
-    let sets = lay_table(&mut table, &mut keys, sheet, *s);
-    questions(c, w, r, sheet, &table[0..sets], &keys);
+    let n = lay_table(&mut table, &mut keys, b.sheet, b.state);
+    let sets = Sets {
+        both: b,
+        table: &table[..n],
+        keys: &keys,
+    };
+    for j in 0..get(w, LAYOUTS) {
+        sets.question(c, j, get(w, ALL) != 0);
+    }
 }
 
 // What differs where the call is refused by a number: the layout wants part p at place 0.
-pub fn refused(r: Record, sheet: &[u8], p: usize, number: u64) -> u64 {
+pub fn refused(b: &Both, p: usize, number: u64) -> u64 {
     let mut buf = [255u8; 64];
     put(&mut buf, p, 0);
-    let none = [0u64; 1];
-    judge(
-        r,
-        sheet,
-        part(&buf, 0, byte(sheet, 2) as usize),
-        number,
-        &none,
-        0,
-    ) % 32
+    let layout = part(&buf, 0, usize::from(byte(b.sheet, 2)));
+    let expected = Expected {
+        refusal: Some(number),
+        keys: &[],
+    };
+    let (_, what) = judge(b.record, b.sheet, layout, expected);
+    what
 }

@@ -1,7 +1,7 @@
 // The customer's call for a command, with what it gives as numbers in a lent array. The record alone goes by value.
 // One function for all programs of cases.
 use commands::{value_of, word_of};
-use session::{Counted, Outcome, Record, command_with};
+use session::{Record, command_with};
 use tally::Tally;
 
 // The answer as one number: the word, 65,536 times, and the value; the outcome's key; and the tally after the command, which the next
@@ -32,30 +32,19 @@ pub fn tally_in(h: &[u64; HEARD]) -> Tally {
 }
 
 pub fn keep_tally(h: &mut [u64; HEARD], t: Tally) {
-    h[FIRED] = t.fired as u64;
-    h[UNDONE] = t.undone as u64;
-    h[REFUSED] = t.refused as u64;
-}
-
-fn heard(h: &mut [u64; HEARD], o: Outcome) -> Record {
-    let a = o.answer;
-    let key = o.key;
-    h[SAID] = word_of(a) as u64 * 65536 + value_of(a, key) as u64;
-    h[KEY] = key.0 as u64;
-    o.session
-}
-
-fn counted(h: &mut [u64; HEARD], done: Counted) -> Record {
-    let t = done.tally;
-    keep_tally(h, t);
-    let o = done.outcome;
-    heard(h, o)
+    h[FIRED] = u64::from(t.fired);
+    h[UNDONE] = u64::from(t.undone);
+    h[REFUSED] = u64::from(t.refused);
 }
 
 // A command on a record; the record after it.
 pub fn commanded(r: Record, sheet: &[u8], bytes: &[u8], h: &mut [u64; HEARD]) -> Record {
     let done = command_with(r, sheet, bytes, tally_in(h));
-    counted(h, done)
+    let o = done.outcome;
+    h[SAID] = u64::from(word_of(o.answer)) * 65536 + u64::from(value_of(o.answer, o.key));
+    h[KEY] = u64::from(o.key.0);
+    keep_tally(h, done.tally);
+    o.session
 }
 
 // The answer alone, of a command on a copy.

@@ -1,47 +1,51 @@
-// The kinds of questions, and the question of a row's kind.
+// The kinds of rows that have sessions, and the question of a row's kind.
 // A new request has a kind, and a branch.
+use ask_session::Together;
+use ask_tools::both::Both;
 use generated::rows::KIND;
-use oracle::STATE;
 use oracle::sets::get;
-use session::Record;
 
-// Kinds 1 to 3 are those of ask_session.
-pub const LAMPS: u64 = 4;
+// What is asked in a session: nothing; its commands together; the four questions of document 02. Any other kind asks nothing.
+#[derive(Clone, Copy, PartialEq, Eq)]
+pub enum Kind {
+    Session,
+    Together(Together),
+    Lamps,
+    Spread,
+    Listing,
+    Way,
+    Other,
+}
 
-const SPREAD: u64 = 5;
-
-const LISTING: u64 = 6;
-
-pub const WAY: u64 = 7;
+pub fn kind_of(w: &[u64]) -> Kind {
+    match get(w, KIND) {
+        1 => Kind::Session,
+        2 => Kind::Together(Together::Block),
+        3 => Kind::Together(Together::Input),
+        4 => Kind::Lamps,
+        5 => Kind::Spread,
+        6 => Kind::Listing,
+        7 => Kind::Way,
+        _ => Kind::Other,
+    }
+}
 
 // Asks a question in both ways; what differs is judged. Where the call is to be refused by a number, answers what differs; p is then a part,
 // for calls that name one, a serial or a layout.
-pub fn ask(
-    c: &mut [u64],
-    w: &[u64],
-    r: Record,
-    sheet: &[u8],
-    s: &[u64; STATE],
-    p: usize,
-    number: u64,
-) -> u64 {
-    let kind = get(w, KIND);
-    if kind == LAMPS {
-        return ask_lamps::ask(c, r, sheet, s, number);
+pub fn ask(c: &mut [u64], w: &[u64], b: &Both, p: usize, refusal: Option<u64>) -> u64 {
+    match (kind_of(w), refusal) {
+        (Kind::Lamps, _) => ask_lamps::ask(c, b, refusal),
+        (Kind::Spread, _) => ask_spread::ask(c, b, p, refusal),
+        (Kind::Listing, _) => ask_listing::ask(c, b, refusal),
+        (Kind::Way, Some(number)) => ask_way::refused(b, p, number),
+        (Kind::Way, None) => {
+            ask_way::ask(c, w, b);
+            0
+        }
+        (Kind::Together(how), None) => {
+            ask_session::ask(c, w, b, how);
+            0
+        }
+        _ => 0,
     }
-    if kind == SPREAD {
-        return ask_spread::ask(c, r, sheet, s, p, number);
-    }
-    if kind == LISTING {
-        return ask_listing::ask(c, r, sheet, s, number);
-    }
-    if (kind == WAY) & (number != 0) {
-        return ask_way::refused(r, sheet, p, number);
-    }
-    if kind == WAY {
-        ask_way::ask(c, w, r, sheet, s);
-    } else if number == 0 {
-        ask_session::ask(c, w, sheet, s);
-    }
-    0
 }

@@ -10,7 +10,6 @@ mod play;
 mod sheets;
 
 use ask_session::outputs::{print_limit, printed};
-use case_tools::bytes::byte;
 use case_tools::counts;
 use case_tools::counts::{count_of, print_group};
 use case_tools::print::{print_count, print_floor};
@@ -33,45 +32,37 @@ fn run_all(c: &mut [u64], w: &mut [u64]) {
     let n = get(w, SESSIONS);
     if n == 0 {
         printed(c);
-        return;
     }
-    let mut seed: u64 = 0;
-    while seed < n {
+    for seed in 0..n {
         run_one(c, w, seed);
-        seed += 1;
     }
 }
 
 // A count of a kind, with the floor that it has to reach, or with none.
 fn print_number(c: &[u64], name: &[u8], w: &[u64]) {
     let n = count_of(c, get(w, 2), get(w, 3));
-    let floor = get(w, 4);
-    if floor == 0 {
-        print_count(name, n);
-    } else {
-        print_floor(name, n, floor);
+    match get(w, 4) {
+        0 => print_count(name, n),
+        floor => print_floor(name, n, floor),
     }
 }
 
 // Kinds of rows: 0 a count; 1 to 15 sessions with a kind of question, or inputs that document 01 prints; 16 the most commands.
 fn run_row(c: &mut [u64], name: &[u8], w: &mut [u64]) {
-    let kind = get(w, KIND);
-    if kind == 0 {
-        print_number(c, name, w);
-        return;
+    match get(w, KIND) {
+        0 => print_number(c, name, w),
+        16 => print_limit(name, (get(w, 2) % 4294967296) as usize),
+        kind => {
+            put(c, counts::KIND, kind);
+            run_all(c, w);
+            print_group(c, name);
+        }
     }
-    if kind == 16 {
-        print_limit(name, (get(w, 2) % 4294967296) as usize);
-        return;
-    }
-    put(c, counts::KIND, kind);
-    run_all(c, w);
-    print_group(c, name);
 }
 
 // A row that begins with # is a comment.
 fn read_row(c: &mut [u64], line: &[u8]) {
-    if byte(line, 0) == b'#' {
+    if line.starts_with(b"#") {
         return;
     }
     let colon = find(line, 0, b':');
@@ -83,15 +74,8 @@ fn read_row(c: &mut [u64], line: &[u8]) {
 }
 
 fn read_rows(c: &mut [u64], text: &[u8]) {
-    let n = text.len();
-    let mut at: usize = 0;
-    while at < n {
-        let end = find(text, at, b'\n');
-        read_row(c, part(text, at, end));
-        if n <= end {
-            return;
-        }
-        at = end + 1;
+    for line in text.split_inclusive(|&b| b == b'\n') {
+        read_row(c, line.strip_suffix(b"\n").unwrap_or(line));
     }
 }
 

@@ -2,8 +2,6 @@
 // cut after so many bytes: from a fresh record the answers are fired 1, undone 1, fired 2, undone 2, ..; from one with nothing live and a
 // highest key given, those above it; a command cut short is refused by 21.
 // All that the block leaves is compared with what its answer makes of it: count, record, tally, and every entry of both lists.
-ghost use Rattle.std.specs.Prelude.{◌≡◌, ◌≤◌, length};
-
 use case_records::heard::{HEARD, commanded};
 use case_records::same_record;
 use io::{print_decimal, write_all};
@@ -19,88 +17,86 @@ const ENTRIES: usize = 1001;
 
 const BYTES: usize = 3 * ENTRIES;
 
-fn the_block() -> [u8; BYTES]
-    ensures { length result ≡ 3003 }
-{
+fn the_block() -> [u8; BYTES] {
     let mut b = [0u8; BYTES];
-    let mut i = 0;
-    while i < ENTRIES {
+    for i in 0..ENTRIES {
         b[3 * i] = (i % 2 + 1) as u8;
-        i += 1;
     }
     b
 }
 
-fn at_most(n: usize, most: usize) -> usize
-    ensures { result ≤ most }
-{
-    if n < most { n } else { most }
+// Of a block of so many bytes, the commands that are whole, and the answers: a command that is cut short has one too.
+fn whole_in(bytes: usize) -> usize {
+    bytes / 3
 }
 
-// Entry i of the lists, of which `whole` have the answer to a whole command and `count` an answer; the others are as they were. The keys
-// are those after `given`.
-fn entry_holds(i: usize, whole: usize, count: usize, given: u16, word: u8, value: u16) -> bool {
-    if i < whole {
-        let key = given as usize + i / 2 % 1000 + 1;
-        return (word as usize == i % 2) & (value as usize == key);
-    }
-    if i < count {
-        return (word == 2) & (value == 21);
-    }
-    (word == 7) & (value == 777)
+fn answers_to(bytes: usize) -> usize {
+    bytes.div_ceil(3)
 }
 
-fn lists_hold(
-    whole: usize,
-    count: usize,
-    given: u16,
-    words: &[u8; ENTRIES],
-    values: &[u16; ENTRIES],
-) -> bool {
-    let mut holds = true;
-    let mut i = 0;
-    while i < ENTRIES {
-        holds = holds & entry_holds(i, whole, count, given, words[i], values[i]);
-        i += 1;
+// What the lists had in each entry.
+const WORD: u8 = 7;
+
+const VALUE: u16 = 777;
+
+// Entry i of the lists after so many bytes; an entry with no answer is as it was. The keys are those after `given`.
+fn entry_holds(i: usize, bytes: usize, given: Key, word: u8, value: u16) -> bool {
+    if i < whole_in(bytes) {
+        let key = usize::from(given.0) + i / 2 % 1000 + 1;
+        usize::from(word) == i % 2 && usize::from(value) == key
+    } else if i < answers_to(bytes) {
+        word == 2 && value == 21
+    } else {
+        word == WORD && value == VALUE
     }
-    holds
+}
+
+// The lists that are lent for the answers.
+#[derive(Clone, Copy)]
+struct Lists {
+    words: [u8; ENTRIES],
+    values: [u16; ENTRIES],
+}
+
+fn lists_hold(l: &Lists, bytes: usize, given: Key) -> bool {
+    (0..ENTRIES).all(|i| entry_holds(i, bytes, given, l.words[i], l.values[i]))
 }
 
 // A count with so many more; 65,535 stays.
 fn has_more(before: u16, after: u16, n: usize) -> bool {
-    after as usize == at_most(before as usize + n % 1001, 65535)
+    usize::from(after) == (usize::from(before) + n % 1001).min(65535)
 }
 
 // The first of the whole commands is a firing; one that is cut short is refused.
-fn tally_holds(t: Tally, u: Tally, whole: usize, cut: usize) -> bool {
-    let fired = has_more(t.fired, u.fired, whole - whole / 2);
-    let undone = has_more(t.undone, u.undone, whole / 2);
-    fired & (undone & has_more(t.refused, u.refused, cut))
+fn tally_holds(t: Tally, u: Tally, bytes: usize) -> bool {
+    let whole = whole_in(bytes);
+    has_more(t.fired, u.fired, whole - whole / 2)
+        && has_more(t.undone, u.undone, whole / 2)
+        && has_more(t.refused, u.refused, usize::from(bytes % 3 != 0))
 }
 
 fn with_given(r: Record, n: usize) -> Record {
-    let given = Key((n % 65536) as u16);
-    let mut next = r;
-    next.given = given;
-    next
-}
-
-// The record after so many whole commands: with so many keys more given, of firings that were taken back, and then as it was or with step 0
-// fired.
-fn record_after(r: Record, sheet: &[u8], whole: usize) -> Record {
-    let given = r.given;
-    let before = with_given(r, (given.0 as usize + whole / 2 % 1001) % 65536);
-    if whole % 2 == 0 {
-        return before;
+    Record {
+        given: Key((n % 65536) as u16),
+        ..r
     }
-    let mut h = [0u64; HEARD];
-    commanded(before, sheet, b"\x01\x00\x00", &mut h)
 }
 
-// Whether the outcome has this count and record.
-fn outcome_holds(o: BlockOutcome, count: usize, after: Record) -> bool {
-    let r = o.session;
-    (o.count == count) & same_record(r, after)
+// The record with step 0 fired.
+fn fired(r: Record, sheet: &[u8]) -> Record {
+    let mut h = [0u64; HEARD];
+    commanded(r, sheet, b"\x01\x00\x00", &mut h)
+}
+
+// The record after so many bytes: with so many keys more given, of firings that were taken back, and then as it was or with step 0 fired.
+fn record_after(r: Record, sheet: &[u8], bytes: usize) -> Record {
+    let whole = whole_in(bytes);
+    let before = with_given(r, usize::from(r.given.0) + whole / 2 % 1001);
+    if whole % 2 == 0 {
+        before
+    } else {
+        fired(before, sheet)
+    }
 }
 
 // What a record, a tally and a sheet are for the blocks that follow.
@@ -111,15 +107,12 @@ struct Lent {
     sheet: [u8; 40],
 }
 
-// What the block left, with so many whole commands, one cut short or none, and so many answers.
-fn left_holds(x: BlockCounted, l: Lent, whole: usize, cut: usize, count: usize) -> bool {
-    let u = x.tally;
-    let t = l.tally;
-    let r = l.record;
-    let sheet = l.sheet;
-    let after = record_after(r, &sheet, whole);
+// What the block left, of so many bytes.
+fn left_holds(x: &BlockCounted, l: &Lent, bytes: usize) -> bool {
     let o = x.outcome;
-    tally_holds(t, u, whole, cut) & outcome_holds(o, count, after)
+    tally_holds(l.tally, x.tally, bytes)
+        && o.count == answers_to(bytes)
+        && same_record(o.session, record_after(l.record, &l.sheet, bytes))
 }
 
 fn print_case(bytes: usize, words: usize, values: usize) {
@@ -133,7 +126,7 @@ fn print_case(bytes: usize, words: usize, values: usize) {
 fn print_answer(number: u8, count: usize, holds: bool) {
     if number != 0 {
         write_all(1, b": refused ");
-        print_decimal(1, number as u64);
+        print_decimal(1, u64::from(number));
     } else {
         write_all(1, b": ran ");
         print_decimal(1, count as u64);
@@ -146,37 +139,32 @@ fn print_answer(number: u8, count: usize, holds: bool) {
 }
 
 // What came of a block of so many bytes; nothing of it is run where it is refused.
-fn told(x: BlockCounted, l: Lent, n: usize, words: &[u8; ENTRIES], values: &[u16; ENTRIES]) {
+fn told(x: &BlockCounted, l: &Lent, n: usize, lists: &Lists) {
     let o = x.outcome;
-    let a = o.answer;
-    let number = a.number();
+    let number = o.answer.number();
     let bytes = if number == 0 { n } else { 0 };
-    let whole = bytes / 3;
-    let cut = (bytes % 3 + 1) / 2;
-    let count = whole + cut;
-    let r = l.record;
-    let given = r.given;
-    let lists = lists_hold(whole, count, given.0, words, values);
-    print_answer(number, o.count, lists & left_holds(x, l, whole, cut, count));
+    let holds = lists_hold(lists, bytes, l.record.given) && left_holds(x, l, bytes);
+    print_answer(number, o.count, holds);
 }
 
 // The block's bytes, and the entries of the two lists.
-fn case(l: Lent, bytes: usize, most_words: usize, most_values: usize) {
-    let n = at_most(bytes, BYTES);
+fn case(l: &Lent, bytes: usize, most_words: usize, most_values: usize) {
+    let n = bytes.min(BYTES);
     let b = the_block();
-    let mut words = [7u8; ENTRIES];
-    let mut values = [777u16; ENTRIES];
-    let sheet = l.sheet;
+    let mut lists = Lists {
+        words: [WORD; ENTRIES],
+        values: [VALUE; ENTRIES],
+    };
     print_case(bytes, most_words, most_values);
     let x = block_with(
         l.record,
-        &sheet,
-        &b[0..n],
+        &l.sheet,
+        &b[..n],
         l.tally,
-        &mut words[0..at_most(most_words, ENTRIES)],
-        &mut values[0..at_most(most_values, ENTRIES)],
+        &mut lists.words[..most_words.min(ENTRIES)],
+        &mut lists.values[..most_values.min(ENTRIES)],
     );
-    told(x, l, n, &words, &values);
+    told(&x, l, n, &lists);
 }
 
 // ---- what is lent
@@ -184,48 +172,39 @@ fn case(l: Lent, bytes: usize, most_words: usize, most_values: usize) {
 // A fresh record on sheet A with a version, and a tally.
 fn lent_of(version: u8, count: u16) -> Lent {
     let mut sheet = sheet_a();
-    let s = start(&sheet);
-    let r = s.session;
+    let record = start(&sheet).session;
     sheet[0] = version;
+    let tally = Tally {
+        fired: count,
+        undone: count,
+        refused: count,
+    };
     Lent {
-        record: r,
-        tally: Tally {
-            fired: count,
-            undone: count,
-            refused: count,
-        },
-        sheet: sheet,
+        record,
+        tally,
+        sheet,
     }
 }
 
-fn with_record(l: Lent, r: Record) -> Lent {
-    let mut next = l;
-    next.record = r;
-    next
-}
-
 // Step 0 fired, and no serial given: not sound.
-fn none_given(l: Lent) -> Lent {
-    let mut h = [0u64; HEARD];
-    let sheet = l.sheet;
-    let r = commanded(l.record, &sheet, b"\x01\x00\x00", &mut h);
-    with_record(l, with_given(r, 0))
+fn none_given(l: &Lent) -> Lent {
+    Lent {
+        record: with_given(fired(l.record, &l.sheet), 0),
+        ..*l
+    }
 }
 
 // A serial in an entry that is not used: not sound.
-fn with_unused(l: Lent) -> Lent {
-    let r = l.record;
-    let mut f = r.firings;
-    f.keys[0] = 5;
-    let mut next = r;
-    next.firings = f;
-    with_record(l, next)
+fn with_unused(l: &Lent) -> Lent {
+    let mut next = *l;
+    next.record.firings.keys[0] = 5;
+    next
 }
 
 // ---- the cases
 
 // One command, two, three.
-fn few(l: Lent) {
+fn few(l: &Lent) {
     case(l, 0, 0, 0);
     case(l, 0, 5, 5);
     case(l, 1, 1, 1);
@@ -242,7 +221,7 @@ fn few(l: Lent) {
 }
 
 // 1,000 commands, and one more.
-fn many(l: Lent) {
+fn many(l: &Lent) {
     case(l, 2999, 1000, 1000);
     case(l, 2999, 999, 1000);
     case(l, 2999, 1000, 999);
@@ -257,14 +236,14 @@ fn many(l: Lent) {
 }
 
 // The highest serial given is 700.
-fn raised(l: Lent) {
+fn raised(l: &Lent) {
     case(l, 4, 2, 2);
     case(l, 3000, 1000, 1000);
     case(l, 3001, 1001, 1001);
 }
 
 // 10 comes before 26.
-fn not_sound(l: Lent, m: Lent) {
+fn not_sound(l: &Lent, m: &Lent) {
     case(l, 0, 0, 0);
     case(l, 4, 2, 2);
     case(m, 0, 0, 0);
@@ -274,7 +253,7 @@ fn not_sound(l: Lent, m: Lent) {
 }
 
 // A refused sheet comes before 26.
-fn refused(l: Lent) {
+fn refused(l: &Lent) {
     case(l, 0, 0, 0);
     case(l, 4, 1, 1);
     case(l, 3001, 1001, 1001);
@@ -282,11 +261,13 @@ fn refused(l: Lent) {
 
 pub fn all_blocks() {
     let l = lent_of(1, 65100);
-    few(l);
-    many(l);
-    let r = l.record;
-    raised(with_record(l, with_given(r, 700)));
+    few(&l);
+    many(&l);
+    raised(&Lent {
+        record: with_given(l.record, 700),
+        ..l
+    });
     let m = lent_of(1, 0);
-    not_sound(none_given(m), with_unused(m));
-    refused(lent_of(9, 65100));
+    not_sound(&none_given(&m), &with_unused(&m));
+    refused(&lent_of(9, 65100));
 }

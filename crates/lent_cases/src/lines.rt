@@ -6,9 +6,12 @@ use io::{print_decimal, write_all};
 use net::Key;
 use report::answer_line;
 
+// A byte more than the longest line needs.
+const ROOM: usize = 25;
+
 fn print_case(room: usize, command: u32) {
     write_all(1, b"command ");
-    print_decimal(1, command as u64);
+    print_decimal(1, u64::from(command));
     write_all(1, b", ");
     print_decimal(1, room as u64);
     write_all(1, b" bytes: ");
@@ -17,32 +20,23 @@ fn print_case(room: usize, command: u32) {
 fn print_line(buf: &[u8], refusal: u8, length: usize) {
     if refusal != 0 {
         write_all(1, b"refused ");
-        print_decimal(1, refusal as u64);
+        print_decimal(1, u64::from(refusal));
     } else {
         write_all(1, b"printed");
     }
     print_kept(untouched(buf, length));
-    if length <= buf.len() {
-        write_all(1, &buf[0..length]);
+    if let Some(line) = buf.get(..length) {
+        write_all(1, line);
     }
 }
 
-fn line_into(buf: &mut [u8], command: u32, answer: Answer, key: u16) {
+// A line into the first `room` bytes of a buffer.
+fn case(room: usize, command: u32, answer: Answer, key: u16) {
+    print_case(room, command);
+    let mut bytes = [b'#'; ROOM];
+    let buf = &mut bytes[..room.min(ROOM)];
     let done = answer_line(buf, command, answer, Key(key));
     print_line(buf, done.refusal, done.length);
-}
-
-// The same into the first `room` bytes of it.
-fn shortened(buf: &mut [u8], room: usize, command: u32, answer: Answer, key: u16) {
-    if room <= buf.len() {
-        line_into(&mut buf[0..room], command, answer, key);
-    }
-}
-
-fn case(room: usize, command: u32, answer: Answer, key: u16) {
-    let mut buf = [b'#'; 25];
-    print_case(room, command);
-    shortened(&mut buf, room, command, answer, key);
 }
 
 pub fn all_lines() {

@@ -13,13 +13,7 @@ use pages::all_pages;
 
 // Whether all bytes from a position on are `#`, as they were.
 fn untouched(buf: &[u8], from: usize) -> bool {
-    let mut same = true;
-    let mut i = from;
-    while i < buf.len() {
-        same = same & (buf[i] == b'#');
-        i += 1;
-    }
-    same
+    buf.iter().skip(from).all(|&b| b == b'#')
 }
 
 fn print_kept(kept: bool) {

@@ -3,14 +3,16 @@
 use crate::{print_kept, untouched};
 use firings::Firing;
 use io::{print_decimal, write_all};
-use net::{Key, Verdict};
+use net::Key;
 use page::page_of;
 use words::low_bits;
 
 // One more than a list may have.
 const MOST: usize = 257;
 
-// A page, and bytes behind it.
+// The bytes of a page, and room for it with bytes behind it.
+const PAGE: usize = 2091;
+
 const ROOM: usize = 2100;
 
 // Firing i of every list: serial 65,535 less 250 i, step 255 less i, 64 less i moved parts, from 64 again after 0.
@@ -25,57 +27,40 @@ fn firing(i: usize) -> Firing {
 }
 
 fn all() -> [Firing; MOST] {
-    let mut list = [firing(0); MOST];
-    let mut i = 0;
-    while i < MOST {
-        list[i] = firing(i);
-        i += 1;
-    }
-    list
+    std::array::from_fn(firing)
 }
 
 fn print_case(n: usize, number: u16, room: usize) {
     print_decimal(1, n as u64);
     write_all(1, b" firings, page ");
-    print_decimal(1, number as u64);
+    print_decimal(1, u64::from(number));
     write_all(1, b", ");
     print_decimal(1, room as u64);
     write_all(1, b" bytes: ");
 }
 
 // The answer, and the page.
-fn print_answer(a: Verdict, buf: &[u8]) {
-    let number = a.number();
+fn print_answer(number: u8, buf: &[u8]) {
     if number != 0 {
         write_all(1, b"refused ");
-        print_decimal(1, number as u64);
+        print_decimal(1, u64::from(number));
         print_kept(untouched(buf, 0));
         return;
     }
     write_all(1, b"printed");
-    print_kept(untouched(buf, 2091));
-    if 2091 <= buf.len() {
-        write_all(1, &buf[0..2091]);
+    print_kept(untouched(buf, PAGE));
+    if let Some(page) = buf.get(..PAGE) {
+        write_all(1, page);
     }
 }
 
-// A page of the first n firings into a buffer.
-fn page_into(buf: &mut [u8], n: usize, number: u16) {
-    let a = page_of(all(), n, number, buf);
-    print_answer(a, buf);
-}
-
-// The same into the first `room` bytes of it.
-fn shortened(buf: &mut [u8], n: usize, number: u16, room: usize) {
-    if room <= buf.len() {
-        page_into(&mut buf[0..room], n, number);
-    }
-}
-
+// A page of the first n firings into the first `room` bytes of a buffer.
 fn case(n: usize, number: u16, room: usize) {
-    let mut buf = [b'#'; ROOM];
     print_case(n, number, room);
-    shortened(&mut buf, n, number, room);
+    let mut bytes = [b'#'; ROOM];
+    let buf = &mut bytes[..room.min(ROOM)];
+    let a = page_of(all(), n, number, buf);
+    print_answer(a.number(), buf);
 }
 
 pub fn all_pages() {

@@ -6,55 +6,43 @@
 // sum of the live keys, since all have to go, and for `listing` ten times the sum of the live firings' steps.
 #![tactic(auto)]
 
+mod asked;
 mod blocks;
-mod lists;
 mod singly;
 mod sum;
-mod ways;
 
 ghost use Rattle.std.specs.Prelude.{◌≤◌, length};
 
+use asked::{run_lists, run_ways};
 use blocks::{run_blocks, run_list};
 use format::word_at;
-use lists::run_lists;
 use singly::run_singly;
 use std::env::{Env, FillError};
-use ways::run_ways;
 
-// Whether the word at i begins with a letter.
-fn begins(rt: &HostRuntime, i: usize, letter: u8) -> bool {
+// The first letter of the word at i.
+fn letter_of(rt: &HostRuntime, i: usize) -> u8 {
     let mut word = io::buffer();
     let _ = rt.arg(i, &mut word);
-    word[0] == letter
+    word[0]
 }
 
 // Whether there is a word at i.
 fn is_given(rt: &HostRuntime, i: usize) -> bool {
     let mut word = [0u8; 1];
-    match rt.arg(i, &mut word) {
-        Err(FillError::NotPresent) => false,
-        _ => true,
-    }
+    !matches!(rt.arg(i, &mut word), Err(FillError::NotPresent))
 }
 
 // The commands in the way that the word at i names.
 fn run_as(rt: &HostRuntime, i: usize, sheet: &[u8], commands: &[u8])
     requires { length commands.now ≤ 65536 }
 {
-    if begins(rt, i, b's') {
-        run_singly(sheet, commands);
-    }
-    if begins(rt, i, b'b') {
-        run_blocks(sheet, commands);
-    }
-    if begins(rt, i, b'r') {
-        run_list(sheet, commands);
-    }
-    if begins(rt, i, b'w') {
-        run_ways(sheet, commands);
-    }
-    if begins(rt, i, b'l') {
-        run_lists(sheet, commands);
+    match letter_of(rt, i) {
+        b's' => run_singly(sheet, commands),
+        b'b' => run_blocks(sheet, commands),
+        b'r' => run_list(sheet, commands),
+        b'w' => run_ways(sheet, commands),
+        b'l' => run_lists(sheet, commands),
+        _ => (),
     }
 }
 
@@ -69,23 +57,16 @@ fn run_all(rt: &HostRuntime, sheet: &[u8], commands: &[u8])
     }
 }
 
-// Where the sheet begins and where it ends: missing bytes shorten it.
-fn at_most(n: usize, most: usize) -> usize
-    ensures { (result ≤ n) × (result ≤ most) }
-{
-    if n < most { n } else { most }
-}
-
+// The sheet and the commands behind its length: missing bytes shorten the sheet.
 fn parted(rt: &HostRuntime, input: &[u8])
     requires { length input.now ≤ 65536 }
 {
     let n = input.len();
-    let begin = at_most(2, n);
-    let end = at_most(2 + word_at(input, 0), n);
-    if end < begin {
-        return;
+    let begin = n.min(2);
+    let end = n.min(2 + word_at(input, 0));
+    if begin <= end {
+        run_all(rt, &input[begin..end], &input[end..]);
     }
-    run_all(rt, &input[begin..end], &input[end..n]);
 }
 
 fn main(rt: HostRuntime) {

@@ -2,36 +2,32 @@
 use case_tools::print::print_tally;
 use tally::Tally;
 
+// The tally that each run begins with.
+pub const ZERO: Tally = Tally {
+    fired: 0,
+    undone: 0,
+    refused: 0,
+};
+
 // The sum so far and one more key.
 pub fn summed(sum: u32, key: u16) -> u32 {
-    std::num::wrapping_add_u32(sum, key as u32)
+    sum.wrapping_add(u32::from(key))
 }
 
-// The sum so far and the value of one more answer, where it is a key.
-fn summed_answer(sum: u32, word: u8, value: u16) -> u32 {
-    if word < 2 {
-        return summed(sum, value);
-    }
-    sum
-}
-
-// The sum so far and the keys of a list of answers.
+// The sum so far and the values of the first n answers, where they are keys.
 pub fn summed_all(sum: u32, words: &[u8], values: &[u16], n: usize) -> u32 {
-    let mut s = sum;
-    let mut i = 0;
-    while i < n {
-        if i < words.len() && i < values.len() {
-            s = summed_answer(s, words[i], values[i]);
-        }
-        i += 1;
-    }
-    s
+    words
+        .iter()
+        .zip(values.iter())
+        .take(n)
+        .filter(|(word, _)| **word < 2)
+        .fold(sum, |s, (_, value)| summed(s, *value))
 }
 
 // A word, the sum and the tally.
 fn print_named(word: &[u8], sum: u32, t: Tally) {
     io::write_all(1, word);
-    io::print_decimal(1, sum as u64);
+    io::print_decimal(1, u64::from(sum));
     io::write_all(1, b"\n");
     print_tally(t.fired, t.undone, t.refused);
 }
