@@ -55,6 +55,7 @@ pub fn has_form(text: &[u8], at: usize, form: &[u8], n: usize) -> bool
 }
 
 // Number k of the line at a position, as far as n items; 0 where there is none.
+// Kept: its clause says 0, and other crates call it.
 pub fn nth_number(text: &[u8], at: usize, k: usize, n: usize) -> u32
     requires { at ≤ length text.now }
     ensures { result ≡ get_or (numbers (row n (drop at text.now))) k 0 }

@@ -26,6 +26,7 @@ pub struct Piece {
 }
 
 // The classes of letters.
+// Kept: `Reaches`, the clause of `end_of`, names the class, and other crates pass it.
 #[derive(Clone, Copy)]
 pub enum Class {
     Blank,

@@ -54,6 +54,7 @@ fn refusal_at(sheet: &[u8], t: Transition) -> Option<u8>
 }
 
 // The same as a number; 0 where none does.
+// Kept: its clause says 0, and other crates call it.
 pub fn transition_refusal(sheet: &[u8], t: Transition) -> u8
     ensures { result ≡ first (transition_checks sheet.now t) }
 {
