@@ -8,10 +8,9 @@ use Prim.Native.Nat.{ℕ, zero, suc, ◌+◌, ◌-◌, ◌<◌}
 use native.Mathlib.Omega.{arith}
 use native.Mathlib.Numerals.{add-one}
 use native.Mathlib.Nat.{le_of_suc-le-suc, not-suc-le-zero}
-use lib.ListN.{length, get_or}
 use Rattle.net.specs.Tests.{all, any, table}
 use Rattle.net.specs.Sorted.{ascends, has}
-use Rattle.net.proofs.Tables.{all_more, any-more, table-list, table-cong}
+use Rattle.net.proofs.Tables.{all_more, any-more, table-cong}
 
 module _ {X : Type 0} where
   pub all-on : (t : X → Bool) (f : ℕ → X) (i : ℕ) → all t (table i f) ≡ true → (x : X) → x ≡ f i → t x ≡ true → all t (table (i + 1) f) ≡ true
@@ -50,10 +49,6 @@ module _ {X : Type 0} where
   pub any-end : (t : X → Bool) (f : ℕ → X) (n i : ℕ) → i ≡ n → any t (table i f) ≡ false → false ≡ any t (table n f)
   any-end t f n i e h = sym h ∙ ap (λ (k : ℕ). any t (table k f)) e
 
-  -- `all` of a list, as of the table of its elements
-  pub all_list : (t : X → Bool) (l : List X) (d : X) → all t l ≡ all t (table (length l) (λ i. get_or l i d))
-  all_list t l d = ap (all t) (sym (table-list l d))
-
   -- `has` is `any` of the comparisons
   pub has-any : (eq : X → X → Bool) (x : X) (l : List X) → has eq x l ≡ any (eq x) l
   has-any eq x [] = refl
@@ -77,14 +72,3 @@ module _ {X : Type 0} (lt : X → X → Bool) where
   ascends-table (suc n) f =
       let e : n ≡ suc n - 1 = omega arith in
       rw (← e) (ascends-from n f ∙ ap (all self) (table-cong n (λ i. lt (f i) (f (suc i))) (below lt f) (λ i h. ap (λ (k : ℕ). lt (f i) (f k)) (sym (add-one i)))))
-
-  -- the loop's places again, with f i and f (i + 1) at hand as x and y
-  pub ascends-on : (f : ℕ → X) (i : ℕ) → all self (table i (below lt f)) ≡ true → (x y : X) → x ≡ f i → y ≡ f (i + 1) → lt x y ≡ true
-      → all self (table (i + 1) (below lt f)) ≡ true
-  ascends-on f i h x y e d k = all-on self (below lt f) i h (lt x y) (rw (e, d)) k
-
-  pub ascends-left : (f : ℕ → X) (n i : ℕ) → i < n - 1 → (x y : X) → x ≡ f i → y ≡ f (i + 1) → lt x y ≡ false → false ≡ ascends lt (table n f)
-  ascends-left f n i h x y e d k = all_left self (below lt f) (n - 1) i h (lt x y) (rw (e, d)) k ∙ sym (ascends-table n f)
-
-  pub ascends-end : (f : ℕ → X) (n i : ℕ) → i ≡ n - 1 → all self (table i (below lt f)) ≡ true → true ≡ ascends lt (table n f)
-  ascends-end f n i e h = all_end self (below lt f) (n - 1) i e h ∙ sym (ascends-table n f)

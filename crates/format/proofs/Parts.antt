@@ -1,31 +1,23 @@
--- Laws of the parts that a sheet's pairs name: where the part lies in the sheet, and where it does not.
+-- Laws of the parts that a sheet's pairs name: what a read of the part gives, where it lies in the sheet and where it does not.
 -- Assumes nothing.
-use mathlib.Core.Path.{◌≡◌}
-use mathlib.Core.List.{List, []}
-use Prim.Native.Nat.{ℕ, ◌+◌, ◌-◌, ◌<◌, ◌≤◌}
-use native.Mathlib.Omega.{arith}
-use lib.ListN.{length, take, drop}
-use borrow.Author.Tests.{le-leb, lt-leb, lt-ltb, le-ltb}
-use Rattle.net.specs.declared.Transition.{Transition}
-use Rattle.format.specs.Bytes.{leading_pairs}
-use Rattle.format.specs.Parts.{transitions_of, offset_of, length_of, part_of, transition_bytes}
+use Rattle.std.proofs.Common.{◌≡◌, ℕ, ◌+◌, ◌-◌, ◌<◌, ◌≤◌, ◌⊎◌, List, [], length, arith, slice_range, Option, Some, None, MatchOption, unwrap_or, Bor, inl, inr, ap, ◌∙◌}
+use borrow.Author.Tests.{le-leb, lt-leb}
+use Rattle.format.specs.Parts.{offset_of, length_of, part_of}
 
 module _ (s : List ℕ) (k a b : ℕ) (ea : a ≡ offset_of s k) (eb : b ≡ length_of s k) where
-  pub found : a + b ≤ length s → take (a + b - a) (drop a s) ≡ part_of s k
+  found : a + b ≤ length s → slice_range s a (a + b) ≡ part_of s k
   unfolding part_of
   found h =
       let e : a + b - a ≡ b = omega arith in
       rw (e, ← ea, ← eb, le-leb (a + b) (length s) h)
 
-  pub missing : length s < a + b → [] ≡ part_of s k
+  missing : length s < a + b → [] ≡ part_of s k
   unfolding part_of
   missing h = rw (← ea, ← eb, lt-leb (a + b) (length s) h)
 
-module _ (s : List ℕ) (t : Transition) (n : ℕ) (e : n ≡ transitions_of s) where
-  pub on-sheet : t.0 < n → part_of s (t.0 + leading_pairs) ≡ transition_bytes s t
-  unfolding transition_bytes
-  on-sheet h = rw (lt-ltb t.0 (transitions_of s) (rw e at h))
-
-  pub not-on-sheet : n ≤ t.0 → [] ≡ transition_bytes s t
-  unfolding transition_bytes
-  not-on-sheet h = rw (le-ltb t.0 (transitions_of s) (rw e at h))
+  pub part_read : (o : Option (Bor (List ℕ))) (d : Bor (List ℕ)) → d.now ≡ []
+      → MatchOption o ((a + b < a) ⊎ (length s < a + b)) (λ x. (a ≤ a + b) × (a + b ≤ length s) × (x.now ≡ slice_range s a (a + b)) × (length x.now + a ≡ a + b))
+      → (r : Bor (List ℕ)) → r ≡ unwrap_or o d → r.now ≡ part_of s k
+  part_read None d n (inl h) r e = absurd (omega arith)
+  part_read None d n (inr h) r e = ap (λ (x : Bor (List ℕ)). x.now) e ∙ (n ∙ missing h)
+  part_read (Some x) d n h r e = ap (λ (y : Bor (List ℕ)). y.now) e ∙ (h.2 ∙ found h.1)

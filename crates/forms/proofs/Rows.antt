@@ -1,21 +1,22 @@
 -- Laws of the loop that holds a line to a form, item by item.
 -- Assumes nothing.
-use mathlib.Core.Path.{◌≡◌, refl, sym, ◌∙◌}
+use mathlib.Core.Path.{◌≡◌, refl, sym, ap, ◌∙◌}
 use mathlib.Core.Bool.{Bool, true, false, ◌&&◌}
 use Prim.Native.Nat.{ℕ, zero, suc, ◌-◌, ◌<◌}
 use native.Mathlib.Omega.{arith}
 use mathlib.Core.List.{List, [], ◌∷◌}
 use lib.ListN.{get_or, drop}
 use lib.Dec.{eqb}
-use borrow.Author.Tests.{eqb-true, eqb-false}
-use Rattle.net.proofs.Tests.{and_l, and_r}
-use Rattle.net.specs.Tests.{pick}
+use lib.Pointwise.{pointwise}
+use Rattle.std.specs.List.{slice_range}
+use Rattle.lexing.proofs.Scans.{slice_range-slice}
+use Rattle.net.specs.Tests.{pick, same_list}
 use Rattle.lexing.specs.Tokens.{Token, next_of, closes, row}
 use Rattle.lexing.specs.Found.{token_of, Stands}
 use Rattle.lexing.specs.declared.Kind.{Kind}
 use Rattle.lexing.specs.declared.Kind.TheVariants.{Word, Number, Line, End, Wrong}
 use Rattle.lexing.specs.declared.Piece.{Piece}
-use Rattle.forms.specs.Forms.{closes_kind, suits_number, up_to, suits, fits, numbers, number_kind, value_kind}
+use Rattle.forms.specs.Forms.{closes_kind, suits, Lies, fits, numbers, number_kind, value_kind}
 
 pub closes-token : (s : List ℕ) (a b : ℕ) (k : Kind) → closes (token_of s a b k) ≡ closes_kind k
 closes-token s a b Word = refl
@@ -24,16 +25,23 @@ closes-token s a b Line = refl
 closes-token s a b End = refl
 closes-token s a b Wrong = refl
 
-pub number-token : (m : ℕ) (s : List ℕ) (a b : ℕ) (k : Kind) → suits_number m k ≡ up_to m (token_of s a b k)
-number-token m s a b Word = refl
-number-token m s a b (Number n) = refl
-number-token m s a b Line = refl
-number-token m s a b End = refl
-number-token m s a b Wrong = refl
-
 -- the token of a piece that stands at the beginning of s
 abbrev tok : List ℕ → Piece → Token
 tok s p = token_of s p.from p.to p.kind
+
+-- ---- two words
+
+pointwise-same : (xs ys : List ℕ) → pointwise eqb xs ys ≡ same_list eqb xs ys
+pointwise-same [] [] = refl
+pointwise-same [] (y ∷ ys) = refl
+pointwise-same (x ∷ xs) [] = refl
+pointwise-same (x ∷ xs) (y ∷ ys) = ap (λ (b : Bool). eqb x y && b) (pointwise-same xs ys)
+
+pub suits-words : (f s : List ℕ) (q p : Piece) → Lies f q → Lies s p → q.kind ≡ Word → p.kind ≡ Word
+    → pointwise eqb (slice_range f q.from q.to) (slice_range s p.from p.to) ≡ suits (tok f q) (tok s p)
+suits-words f s q p lq lp eq ep =
+    rw (eq, ep) (pointwise-same (slice_range f q.from q.to) (slice_range s p.from p.to)
+    ∙ rw (slice_range-slice f q.from q.to lq.0, slice_range-slice s p.from p.to lp.0))
 
 -- a row from there on
 row_step : (s r : List ℕ) (p : Piece) (n : ℕ) → Stands s p (next_of r) → row (suc n) r ≡ pick (closes_kind p.kind) [] (tok s p ∷ row n (drop p.to s))
@@ -73,27 +81,32 @@ numbers-cons s a b Line ts = refl
 numbers-cons s a b End ts = refl
 numbers-cons s a b Wrong ts = refl
 
+-- an item that is no number and does not close the line
+pub record IsOther (k : Kind) : Type 0 where
+  pub no_number : (m : ℕ) → k ≡ Number m → ⊥
+  pub no_line : k ≡ Line → ⊥
+  pub no_end : k ≡ End → ⊥
+
+other : {k : Kind} → IsOther k → (closes_kind k ≡ false) × (number_kind k ≡ false)
+other {k = Word} o = (refl, refl)
+other {k = Number n} o = absurd (o.no_number n refl)
+other {k = Line} o = absurd (o.no_line refl)
+other {k = End} o = absurd (o.no_end refl)
+other {k = Wrong} o = (refl, refl)
+
 module _ (s r : List ℕ) (p : Piece) (d : Stands s p (next_of r)) where
-  pub number-none : (n k : ℕ) → 0 < n → closes_kind p.kind ≡ true → 0 ≡ get_or (numbers (row n r)) k 0
-  number-none zero k h e = absurd (let z : ⊥ = omega arith in z)
-  number-none (suc n) k h e = rw (row_step s r p n d, e)
+  pub skip-number : (n k m : ℕ) → 0 < n → p.kind ≡ Number m → (k ≡ 0 → ⊥) → (j : ℕ) → j ≡ k - 1
+      → get_or (numbers (row (n - 1) (drop p.to s))) j 0 ≡ get_or (numbers (row n r)) k 0
+  skip-number zero k m h e u j i = absurd (let z : ⊥ = omega arith in z)
+  skip-number (suc n) zero m h e u j i = absurd (u refl)
+  skip-number (suc n) (suc k) m h e u j i =
+      let a : suc n - 1 ≡ n = omega arith in
+      let b : suc k - 1 ≡ k = omega arith in
+      rw (row_step s r p n d, e, a, i, b)
 
-  pub number-here : (n k : ℕ) → 0 < n → closes_kind p.kind ≡ false → (number_kind p.kind && eqb k 0) ≡ true → value_kind p.kind ≡ get_or (numbers (row n r)) k 0
-  number-here zero k h e w = absurd (let z : ⊥ = omega arith in z)
-  number-here (suc n) k h e w =
-      let u : number_kind p.kind ≡ true = and_l (number_kind p.kind) (eqb k 0) w in
-      let z : k ≡ 0 = eqb-true k 0 (and_r (number_kind p.kind) (eqb k 0) w) in
-      rw (row_step s r p n d, e, numbers-cons s p.from p.to p.kind (row n (drop p.to s)), u, z)
-
-  later : (b : Bool) (k v : ℕ) (ns : List ℕ) → (b && eqb k 0) ≡ false → get_or ns (pick b (k - 1) k) 0 ≡ get_or (pick b (v ∷ ns) ns) k 0
-  later true zero v ns u = absurd (eqb-false 0 0 u refl)
-  later true (suc k) v ns u = let m : suc k - 1 ≡ k = omega arith in rw m
-  later false k v ns u = refl
-
-  pub number-later : (n k : ℕ) → 0 < n → closes_kind p.kind ≡ false → (number_kind p.kind && eqb k 0) ≡ false
-      → get_or (numbers (row (n - 1) (drop p.to s))) (pick (number_kind p.kind) (k - 1) k) 0 ≡ get_or (numbers (row n r)) k 0
-  number-later zero k h e u = absurd (let z : ⊥ = omega arith in z)
-  number-later (suc n) k h e u =
-      let m : suc n - 1 ≡ n = omega arith in
-      rw (row_step s r p n d, e, numbers-cons s p.from p.to p.kind (row n (drop p.to s)), m)
-      (later (number_kind p.kind) k (value_kind p.kind) (numbers (row n (drop p.to s))) u)
+  pub skip-other : (n k : ℕ) → 0 < n → IsOther p.kind → (j : ℕ) → j ≡ k
+      → get_or (numbers (row (n - 1) (drop p.to s))) j 0 ≡ get_or (numbers (row n r)) k 0
+  skip-other zero k h o j i = absurd (let z : ⊥ = omega arith in z)
+  skip-other (suc n) k h o j i =
+      let a : suc n - 1 ≡ n = omega arith in
+      rw (row_step s r p n d, (other o).0, numbers-cons s p.from p.to p.kind (row n (drop p.to s)), (other o).1, a, i)

@@ -26,6 +26,7 @@ pub struct Piece {
 }
 
 // The classes of letters.
+// Kept: `Reaches`, the clause of `end_of`, names the class, and other crates pass it.
 #[derive(Clone, Copy)]
 pub enum Class {
     Blank,
@@ -34,29 +35,15 @@ pub enum Class {
     InLine,
 }
 
-// A letter lies between two.
-fn between(c: u8, lo: u8, hi: u8) -> bool
-    ensures { result ≡ (leb lo c && leb c hi) }
-{
-    lo <= c && c <= hi
-}
-
-// A space, a tab, a carriage return; not the newline.
-fn is_blank(c: u8) -> bool
-    ensures { result ≡ blank c }
-{
-    c <= 32 && c != 10
-}
-
-// A letter is of a class.
+// A letter is of a class. A blank is a space, a tab, a carriage return; not the newline.
 fn is_of(class: Class, c: u8) -> bool
     ensures { result ≡ passes class c }
 {
     match class {
-        Class::Blank => is_blank(c),
-        Class::Letter => between(c, 97, 122),
-        Class::Digit => between(c, 48, 57),
-        Class::InLine => c != 10,
+        Class::Blank => c <= b' ' && c != b'\n',
+        Class::Letter => c.is_ascii_lowercase(),
+        Class::Digit => c.is_ascii_digit(),
+        Class::InLine => c != b'\n',
     }
 }
 
@@ -66,37 +53,16 @@ pub fn end_of(text: &[u8], at: usize, class: Class) -> usize
     requires { at ≤ length text.now }
     ensures { Reaches text.now at class result }
 {
-    let mut i = at;
-    while i < text.len() {
-        let passed = is_of(class, text[i]);
-        if !passed {
-            return i;
-        }
-        i += 1;
-    }
-    i
+    at + text[at..].iter().take_while(|&&c| is_of(class, c)).count()
 }
 
-// What a digit counts.
-fn digit_of(c: u8) -> u32
-    ensures { (result ≡ c - 48) × (result ≤ 255) }
-{
-    if c < 48 {
-        return 0;
-    }
-    (c as u32) - 48
-}
-
-// One digit more of a number. What was read so far is the answer for one digit less.
+// One digit more of a number; 65,536 where it is no longer below it.
 fn one_more(v: u32, c: u8) -> u32
-    requires { v ≤ too_much }
-    ensures { (result ≡ more v c) × (result ≤ too_much) }
+    ensures { result ≡ more v c }
 {
-    let w = 10 * v + digit_of(c);
-    if w < 65536 {
-        return w;
-    }
-    65536
+    v.saturating_mul(10)
+        .saturating_add(u32::from(c.saturating_sub(b'0')))
+        .min(65536)
 }
 
 // The number that the digits between two positions are. The caller has found both in the text.
@@ -104,50 +70,28 @@ fn value_of(text: &[u8], from: usize, to: usize) -> u32
     requires { (from ≤ to) × (to ≤ length text.now) }
     ensures { result ≡ value (slice from to text.now) }
 {
-    let mut v = 0;
-    let mut i = from;
-    while i < to {
-        v = one_more(v, text[i]);
-        i += 1;
-    }
-    v
+    text[from..to].iter().fold(0, |v, &c| one_more(v, c))
 }
 
 // An item may end here: at the end of the text, a blank, a newline or a comment.
 fn ends_at(text: &[u8], at: usize) -> bool
     ensures { result ≡ ends (drop at text.now) }
 {
-    if text.len() <= at {
-        return true;
-    }
-    let c = text[at];
-    if c <= 32 {
-        return true;
-    }
-    c == 35
+    text.get(at).is_none_or(|&c| c <= b' ' || c == b'#')
 }
 
 // A digit stands here.
 fn digit_at(text: &[u8], at: usize) -> bool
     ensures { result ≡ on_digit (drop at text.now) }
 {
-    if text.len() <= at {
-        return false;
-    }
-    is_of(Class::Digit, text[at])
+    text.get(at).is_some_and(|&c| is_of(Class::Digit, c))
 }
 
 // A hyphen stands here and a digit behind it.
 fn joins_at(text: &[u8], at: usize) -> bool
     ensures { result ≡ joins (drop at text.now) }
 {
-    if text.len() <= at {
-        return false;
-    }
-    if text[at] != 45 {
-        return false;
-    }
-    digit_at(text, at + 1)
+    at < text.len() && text[at] == b'-' && digit_at(text, at + 1)
 }
 
 // A word that begins here.
@@ -156,19 +100,12 @@ fn word_at(text: &[u8], from: usize) -> Piece
     ensures { Stands text.now result (worded (front letter (drop from text.now)) (past letter (drop from text.now))) }
 {
     let to = end_of(text, from, Class::Letter);
-    let done = ends_at(text, to);
-    if !done {
-        return Piece {
-            kind: Kind::Wrong,
-            from: from,
-            to: to,
-        };
-    }
-    Piece {
-        kind: Kind::Word,
-        from: from,
-        to: to,
-    }
+    let kind = if ends_at(text, to) {
+        Kind::Word
+    } else {
+        Kind::Wrong
+    };
+    Piece { kind, from, to }
 }
 
 // A number that begins here. A hyphen that joins it to the next is passed.
@@ -177,27 +114,21 @@ fn number_at(text: &[u8], from: usize) -> Piece
     ensures { Stands text.now result (numbered (value (front digit (drop from text.now))) (past digit (drop from text.now))) }
 {
     let to = end_of(text, from, Class::Digit);
-    let n = value_of(text, from, to);
-    let done = ends_at(text, to);
-    if done {
-        return Piece {
-            kind: Kind::Number(n),
-            from: from,
-            to: to,
-        };
-    }
-    let joined = joins_at(text, to);
-    if joined {
-        return Piece {
-            kind: Kind::Number(n),
-            from: from,
+    let kind = Kind::Number(value_of(text, from, to));
+    if ends_at(text, to) {
+        Piece { kind, from, to }
+    } else if joins_at(text, to) {
+        Piece {
+            kind,
+            from,
             to: to + 1,
-        };
-    }
-    Piece {
-        kind: Kind::Wrong,
-        from: from,
-        to: to,
+        }
+    } else {
+        Piece {
+            kind: Kind::Wrong,
+            from,
+            to,
+        }
     }
 }
 
@@ -207,17 +138,18 @@ fn comment_at(text: &[u8], from: usize) -> Piece
     ensures { Stands text.now result (ended (past in_line (drop from text.now))) }
 {
     let stop = end_of(text, from, Class::InLine);
-    if text.len() <= stop {
-        return Piece {
+    if stop < text.len() {
+        Piece {
+            kind: Kind::Line,
+            from: stop,
+            to: stop + 1,
+        }
+    } else {
+        Piece {
             kind: Kind::End,
             from: stop,
             to: stop,
-        };
-    }
-    Piece {
-        kind: Kind::Line,
-        from: stop,
-        to: stop + 1,
+        }
     }
 }
 
@@ -229,41 +161,32 @@ fn begun_at(text: &[u8], from: usize) -> Piece
     if text.len() <= from {
         return Piece {
             kind: Kind::End,
-            from: from,
+            from,
             to: from,
         };
     }
-    let c = text[from];
-    let a_word = is_of(Class::Letter, c);
-    if a_word {
-        return word_at(text, from);
-    }
-    let a_number = is_of(Class::Digit, c);
-    if a_number {
-        return number_at(text, from);
-    }
-    if c == 10 {
-        return Piece {
+    match text[from] {
+        b'a'..=b'z' => word_at(text, from),
+        b'0'..=b'9' => number_at(text, from),
+        b'\n' => Piece {
             kind: Kind::Line,
-            from: from,
+            from,
             to: from + 1,
-        };
-    }
-    if c == 35 {
-        return comment_at(text, from);
-    }
-    Piece {
-        kind: Kind::Wrong,
-        from: from,
-        to: from + 1,
+        },
+        b'#' => comment_at(text, from),
+        _ => Piece {
+            kind: Kind::Wrong,
+            from,
+            to: from + 1,
+        },
     }
 }
 
 // The next word or number of a text, from a position on.
+#[tactic(auto, unfolding(crate::specs::Tokens::next_of))]
 pub fn next(text: &[u8], at: usize) -> Piece
     requires { at ≤ length text.now }
     ensures { Stands text.now result (next_of (drop at text.now)) }
 {
-    let from = end_of(text, at, Class::Blank);
-    begun_at(text, from)
+    begun_at(text, end_of(text, at, Class::Blank))
 }

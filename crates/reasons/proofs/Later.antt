@@ -1,4 +1,4 @@
--- The loop over the lines after the one at i: it begins, goes on, leaves and ends; and lines with sets of more flags, none of them set.
+-- The loop over the lines after the one at i: it goes on, leaves and ends; and lines with sets of more flags, none of them set.
 -- Assumes nothing.
 use mathlib.Core.Path.{◌≡◌, refl, sym, ap, ◌∙◌}
 use mathlib.Core.Bool.{Bool, true, false, ◌&&◌}
@@ -46,9 +46,6 @@ module _ (live : ℕ) (ts keys ms : List ℕ) where
     -- of those from j on
     abbrev pub from : ℕ → ℕ
     from j = j + first_at (built_after (get_or ls i no_line)) (drop j ls)
-
-    pub later-begin : later_at ls i ≡ from (i + 1)
-    later-begin = ap from (sym (add-one i))
 
     module _ (low : i < live) (j : ℕ) where
       inside : j < live → j < length ls

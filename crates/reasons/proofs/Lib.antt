@@ -1,5 +1,4 @@
 -- What a reason says where a command was refused by its number.
-pub mod Tests
 pub mod Later
 pub mod Named
 pub mod Built

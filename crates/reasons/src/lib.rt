@@ -26,8 +26,7 @@ fn is_away(places: &[Place; MAX_BASES], e: Entry) -> bool
     requires { e.base < max_bases }
     ensures { result ≡ away_from places.now e }
 {
-    let base = e.base as usize;
-    places[base] != e.from
+    places[usize::from(e.base)] != e.from
 }
 
 // 13: the first entry whose base is not at its in-place. The callers' entries are of bases of the net.
@@ -36,46 +35,27 @@ pub fn first_away(step: &[u8], places: &[Place; MAX_BASES]) -> u8
     ensures { result ≡ first_at (away_from places.now) (arcs_in step.now).entries }
 {
     let n = entry_count(step);
-    let mut i: u8 = 0;
-    while i < n {
-        let e = entry(step, i);
-        let away = is_away(places, e);
-        if away {
-            return i;
-        }
-        i += 1;
-    }
-    n
+    (0..n)
+        .find(|&i| is_away(places, entry(step, i)))
+        .unwrap_or(n)
 }
 
 // 14: the first in-coupling that is not there. Callers have the bonds of a marking in its form, in strict order, here and below.
-pub fn first_absent<'a>(
-    step: &[u8],
-    lo: &'a [Base; MAX_BONDS],
-    hi: &'a [Base; MAX_BONDS],
-    count: usize,
-) -> u8
+pub fn first_absent(step: &[u8], lo: &[Base; MAX_BONDS], hi: &[Base; MAX_BONDS], count: usize) -> u8
     requires { (count ≤ max_bonds) × Ascending same_bond less_bond (bonds_in lo.now hi.now count) }
     ensures { result ≡ first_at (absent_from (bonds_in lo.now hi.now count)) (arcs_in step.now).in_bonds }
 {
     let n = in_count(step);
-    let mut i: u8 = 0;
-    while i < n {
-        let b = in_bond(step, i);
-        let here = has_bond(lo, hi, count, b);
-        if !here {
-            return i;
-        }
-        i += 1;
-    }
-    n
+    (0..n)
+        .find(|&i| !has_bond(lo, hi, count, in_bond(step, i)))
+        .unwrap_or(n)
 }
 
 // 15: the first out-coupling that is no in-coupling and is there already.
-pub fn first_present<'a>(
+pub fn first_present(
     step: &[u8],
-    lo: &'a [Base; MAX_BONDS],
-    hi: &'a [Base; MAX_BONDS],
+    lo: &[Base; MAX_BONDS],
+    hi: &[Base; MAX_BONDS],
     count: usize,
 ) -> u8
     requires { (count ≤ max_bonds) × Ascending same_bond less_bond (bonds_in lo.now hi.now count) }
@@ -83,17 +63,12 @@ pub fn first_present<'a>(
         (arcs_in step.now).out_bonds }
 {
     let n = out_count(step);
-    let mut i: u8 = 0;
-    while i < n {
-        let b = out_bond(step, i);
-        let kept = is_bond_of(step, false, b);
-        let here = has_bond(lo, hi, count, b);
-        if !kept & here {
-            return i;
-        }
-        i += 1;
-    }
-    n
+    (0..n)
+        .find(|&i| {
+            let b = out_bond(step, i);
+            !is_bond_of(step, false, b) && has_bond(lo, hi, count, b)
+        })
+        .unwrap_or(n)
 }
 
 // Two entries hang together and have different out-places. The callers' entries are of bases below the limit, and their
@@ -102,9 +77,7 @@ fn is_torn(l: &[Base; MAX_BASES], e: Entry, d: Entry) -> bool
     requires { (e.base < max_bases) × (d.base < max_bases) }
     ensures { (t : Arcs) (s : Marking) → Parted max_bases l.now (bonds_seen t s.bonds) → result ≡ torn_from t s e d }
 {
-    let x = e.base as usize;
-    let y = d.base as usize;
-    (l[x] == l[y]) & (e.to != d.to)
+    l[usize::from(e.base)] == l[usize::from(d.base)] && e.to != d.to
 }
 
 // 16: the first entry that hangs together with e and has another out-place.
@@ -115,14 +88,10 @@ pub fn first_partner(step: &[u8], l: &[Base; MAX_BASES], e: Entry) -> u8
         → result ≡ first_at (torn_from (arcs_in step.now) s e) (arcs_in step.now).entries }
 {
     let n = entry_count(step);
-    let mut i: u8 = 0;
-    while i < n {
-        let d = entry(step, i);
-        let torn = is_torn(l, e, d);
-        if torn {
+    for i in 0..n {
+        if is_torn(l, e, entry(step, i)) {
             return i;
         }
-        i += 1;
     }
     n
 }
@@ -134,14 +103,10 @@ pub fn first_torn(step: &[u8], l: &[Base; MAX_BASES]) -> u8
         → result ≡ first_at (has_partner (arcs_in step.now) s) (arcs_in step.now).entries }
 {
     let n = entry_count(step);
-    let mut i: u8 = 0;
-    while i < n {
-        let e = entry(step, i);
-        let other = first_partner(step, l, e);
-        if other < n {
+    for i in 0..n {
+        if first_partner(step, l, entry(step, i)) < n {
             return i;
         }
-        i += 1;
     }
     n
 }
@@ -152,14 +117,10 @@ pub fn first_later(moved: &[u64; MAX_LIVE], live: usize, i: usize) -> usize
     requires { (i < live) × (live ≤ max_live) }
     ensures { (ts keys : List ℕ) → result ≡ later_at (lines_in max_bases (lying live ts keys moved.now)) i }
 {
-    let mine = moved[i];
-    let mut j = i + 1;
-    while j < live {
-        let met = shares(mine, moved[j]);
-        if met {
+    for j in i + 1..live {
+        if shares(moved[i], moved[j]) {
             return j;
         }
-        j += 1;
     }
     live
 }
@@ -168,14 +129,7 @@ pub fn first_later(moved: &[u64; MAX_LIVE], live: usize, i: usize) -> usize
 pub fn first_common(a: u64, b: u64) -> usize
     ensures { result ≡ common_at (set_of max_bases a) (set_of max_bases b) }
 {
-    let mut p = 0;
-    while p < MAX_BASES {
-        let x = has_base(a, p as u8);
-        let y = has_base(b, p as u8);
-        if x & y {
-            return p;
-        }
-        p += 1;
-    }
-    MAX_BASES
+    (0..MAX_BASES)
+        .find(|&p| has_base(a, p as u8) && has_base(b, p as u8))
+        .unwrap_or(MAX_BASES)
 }

@@ -1,21 +1,20 @@
 -- Laws of checks in order: the first that holds in two lists, one after the other; none holds where the first is 0.
--- Then the checks of a transition, and of the transitions from one on. Assumes nothing.
+-- Then the checks of the transitions from one on. Assumes nothing.
 use mathlib.Core.Path.{◌≡◌, refl, sym, ◌∙◌}
 use mathlib.Core.Bool.{Bool, true, false, not, ◌&&◌}
 use mathlib.Core.List.{List, [], ◌∷◌, ◌++◌}
-use Prim.Native.Nat.{ℕ, zero, suc, ◌+◌, ◌-◌, ◌<◌, ◌≤◌}
+use Prim.Native.Nat.{ℕ, zero, suc, ◌+◌, ◌-◌, ◌<◌}
 use native.Mathlib.Omega.{arith}
 use lib.Dec.{eqb, ltb}
-use borrow.Author.Tests.{ltb-true, eq-eqb, ne_eqb}
+use borrow.Author.Tests.{ltb-true, ne_eqb}
+use Rattle.std.proofs.Common.{Some, None, unwrap_or}
+use Rattle.std.specs.Option.{is_some}
 use Rattle.net.specs.Tests.{pick, all}
 use Rattle.net.specs.Checks.{Check, clear, first, numbers, verdict_number}
 use Rattle.net.specs.Journal.{transition}
-use Rattle.net.specs.declared.Transition.{Transition}
 use Rattle.net.proofs.Tests.{and_l, and_r}
-use Rattle.format.specs.Parts.{places_of, bases_of, transitions_of, transition_bytes}
-use Rattle.sheet_arcs.specs.Conditions.{wrong_width, wrong_entries}
-use Rattle.sheet_bonds.specs.Conditions.{wrong_bonds}
-use Rattle.sheet.specs.Checks.{head_checks, transition_checks, checks_from, sheet_checks, checked}
+use Rattle.format.specs.Parts.{transitions_of}
+use Rattle.sheet.specs.Checks.{refusal, head_checks, transition_checks, checks_from, sheet_checks, checked}
 use Rattle.net.specs.declared.Verdict.TheVariants.{Accepted, Refused}
 
 -- ---- any list of checks
@@ -42,6 +41,39 @@ first-append (c ∷ cs) ds h = go c.holds (first-append cs ds (and_r (ltb 0 c.nu
     go true e = let k : 0 < c.number = ltb-true 0 c.number (and_l (ltb 0 c.number) (numbered cs) h) in rw (ne_eqb c.number 0 (λ q. omega arith))
     go false e = e
 
+-- the first that holds, as an option
+pub refusal_left : (cs ds : List Check) (n : ℕ) → refusal cs ≡ Some n → refusal (cs ++ ds) ≡ Some n
+refusal_left [] ds n e = absurd (cc)
+refusal_left (c ∷ cs) ds n e = go c.holds (refusal_left cs ds n) e
+  where
+    go : (b : Bool) → (refusal cs ≡ Some n → refusal (cs ++ ds) ≡ Some n) → pick b (Some c.number) (refusal cs) ≡ Some n → pick b (Some c.number) (refusal (cs ++ ds)) ≡ Some n
+    go true rest d = d
+    go false rest d = rest d
+
+pub refusal_on : (cs ds : List Check) → refusal cs ≡ None → refusal (cs ++ ds) ≡ refusal ds
+refusal_on [] ds e = refl
+refusal_on (c ∷ cs) ds e = go c.holds (refusal_on cs ds) e
+  where
+    go : (b : Bool) → (refusal cs ≡ None → refusal (cs ++ ds) ≡ refusal ds) → pick b (Some c.number) (refusal cs) ≡ None → pick b (Some c.number) (refusal (cs ++ ds)) ≡ refusal ds
+    go true rest d = absurd (cc)
+    go false rest d = rest d
+
+pub first_refusal : (cs : List Check) → first cs ≡ unwrap_or (refusal cs) 0
+first_refusal [] = refl
+first_refusal (c ∷ cs) = go c.holds (first_refusal cs)
+  where
+    go : (b : Bool) → first cs ≡ unwrap_or (refusal cs) 0 → pick b c.number (first cs) ≡ unwrap_or (pick b (Some c.number) (refusal cs)) 0
+    go true rest = refl
+    go false rest = rest
+
+pub clear_refusal : (cs : List Check) → clear cs ≡ not (is_some (refusal cs))
+clear_refusal [] = refl
+clear_refusal (c ∷ cs) = go c.holds (clear_refusal cs)
+  where
+    go : (b : Bool) → clear cs ≡ not (is_some (refusal cs)) → (not b && clear cs) ≡ not (is_some (pick b (Some c.number) (refusal cs)))
+    go true rest = refl
+    go false rest = rest
+
 -- ---- the numbers, in checking order
 
 pub head-numbers : (s : List ℕ) → numbers (head_checks s) ≡ 1 ∷ 2 ∷ 3 ∷ 4 ∷ 5 ∷ 6 ∷ []
@@ -51,40 +83,13 @@ head-numbers s = refl
 pub transition-numbers : (s : List ℕ) (k : ℕ) → numbers (checks_from s k 2) ≡ 7 ∷ 8 ∷ 9 ∷ 7 ∷ 8 ∷ 9 ∷ []
 transition-numbers s k = refl
 
--- ---- one transition
-
-module _ (s : List ℕ) (t : Transition) (b : List ℕ) (places bases : ℕ) (eb : b ≡ transition_bytes s t) (ep : places ≡ places_of s) (eq : bases ≡ bases_of s) where
-  pub refused-7 : wrong_width b ≡ true → 7 ≡ first (transition_checks s t)
-  refused-7 h = rw (← eb, h)
-
-  pub refused-8 : wrong_width b ≡ false → wrong_entries places bases b ≡ true → 8 ≡ first (transition_checks s t)
-  refused-8 h i = rw (← eb, ← ep, ← eq, h, i)
-
-  pub refused-9 : wrong_width b ≡ false → wrong_entries places bases b ≡ false → wrong_bonds b ≡ true → 9 ≡ first (transition_checks s t)
-  refused-9 h i j = rw (← eb, ← ep, ← eq, h, i, j)
-
-  pub refused_none : wrong_width b ≡ false → wrong_entries places bases b ≡ false → wrong_bonds b ≡ false → 0 ≡ first (transition_checks s t)
-  refused_none h i j = rw (← eb, ← ep, ← eq, h, i, j)
-
 -- ---- the transitions from k on
 
-from_step : (s : List ℕ) (k n : ℕ) → 0 < n
-    → first (checks_from s k n) ≡ pick (eqb (first (transition_checks s (transition k))) 0) (first (checks_from s (k + 1) (n - 1))) (first (transition_checks s (transition k)))
-from_step s k zero h = absurd (let z : ⊥ = omega arith in z)
-from_step s k (suc n) h =
-    let e : suc n - 1 ≡ n = omega arith in
-    rw e (first-append (transition_checks s (transition k)) (checks_from s (k + 1) n) refl)
-
-module _ (s : List ℕ) (k n r : ℕ) (h : 0 < n) (e : r ≡ first (transition_checks s (transition k))) where
-  pub from-left : (r ≡ 0 → ⊥) → first (checks_from s k n) ≡ r
-  from-left d = from_step s k n h ∙ rw (← e, ne_eqb r 0 d)
-
-  pub from_on : r ≡ 0 → first (checks_from s k n) ≡ first (checks_from s (k + 1) (n - 1))
-  from_on d = from_step s k n h ∙ rw (← e, eq-eqb r 0 d)
-
-pub from_end : (s : List ℕ) (k n : ℕ) → n ≤ 0 → first (checks_from s k n) ≡ 0
-from_end s k zero h = refl
-from_end s k (suc n) h = absurd (let z : ⊥ = omega arith in z)
+pub refusals-from : (s : List ℕ) (k n : ℕ) → 0 < n → refusal (transition_checks s (transition k)) ≡ None → refusal (checks_from s k n) ≡ refusal (checks_from s (k + 1) (n - 1))
+refusals-from s k zero h e = absurd (let z : ⊥ = omega arith in z)
+refusals-from s k (suc n) h e =
+    let z : suc n - 1 ≡ n = omega arith in
+    refusal_on (transition_checks s (transition k)) (checks_from s (k + 1) n) e ∙ rw z
 
 from-numbered : (s : List ℕ) (k n : ℕ) → numbered (checks_from s k n) ≡ true
 from-numbered s k zero = refl
@@ -93,14 +98,6 @@ from-numbered s k (suc n) = from-numbered s (k + 1) n
 -- ---- the whole sheet
 
 module _ (s : List ℕ) where
-  pub head-left : (r : ℕ) → r ≡ first (head_checks s) → (r ≡ 0 → ⊥) → r ≡ first (sheet_checks s)
-  unfolding sheet_checks
-  head-left r e d = sym (first-append (head_checks s) (checks_from s 0 (transitions_of s)) refl ∙ rw (← e, ne_eqb r 0 d))
-
-  pub head-on : (r : ℕ) → r ≡ first (head_checks s) → r ≡ 0 → first (checks_from s 0 (transitions_of s)) ≡ first (sheet_checks s)
-  unfolding sheet_checks
-  head-on r e d = sym (first-append (head_checks s) (checks_from s 0 (transitions_of s)) refl ∙ rw (← e, eq-eqb r 0 d))
-
   pub none_first : clear (sheet_checks s) ≡ eqb (first (sheet_checks s)) 0
   unfolding sheet_checks
   none_first = clear_first (head_checks s ++ checks_from s 0 (transitions_of s)) (from-numbered s 0 (transitions_of s))
@@ -113,12 +110,3 @@ module _ (s : List ℕ) where
       go : (n : ℕ) → verdict_number (pick (eqb n 0) Accepted (Refused n)) ≡ n
       go zero = refl
       go (suc n) = rw (ne_eqb (suc n) 0 (λ q. omega arith))
-
-  -- the answer that the code gives, and its number
-  pub answered-none : (r : ℕ) → r ≡ first (sheet_checks s) → r ≡ 0 → (Accepted ≡ checked s) × (0 ≡ first (sheet_checks s))
-  unfolding checked
-  answered-none r e d = (rw (none_first, ← e, eq-eqb r 0 d), sym d ∙ e)
-
-  pub answered-one : (r : ℕ) → r ≡ first (sheet_checks s) → (r ≡ 0 → ⊥) → (Refused r ≡ checked s) × (r ≡ first (sheet_checks s))
-  unfolding checked
-  answered-one r e d = (rw (none_first, ← e, ne_eqb r 0 d), e)

@@ -1,6 +1,6 @@
 -- The checks of a sheet in checking order (01, the turned-away list, 1 to 9), and the answer to a sheet.
 -- Definitions only. The conditions are those of sheet_head (1 to 6), sheet_arcs (7, 8) and sheet_bonds (9).
-use Rattle.std.specs.Prelude.{ℕ, zero, suc, ◌+◌, List, [], ◌∷◌, ◌++◌}
+use Rattle.std.specs.Prelude.{ℕ, zero, suc, ◌+◌, List, [], ◌∷◌, ◌++◌, Option, Some, None}
 use Rattle.net.specs.Tests.{pick}
 use Rattle.net.specs.Checks.{Check, check, clear, first}
 use Rattle.net.specs.Journal.{transition}
@@ -11,6 +11,11 @@ use Rattle.sheet_arcs.specs.Conditions.{wrong_width, wrong_entries}
 use Rattle.sheet_bonds.specs.Conditions.{wrong_bonds}
 use Rattle.net.specs.declared.Verdict.{Verdict}
 use Rattle.net.specs.declared.Verdict.TheVariants.{Accepted, Refused}
+
+-- the number of the first that holds
+abbrev pub refusal : List Check → Option ℕ
+refusal [] = None
+refusal (c ∷ cs) = pick c.holds (Some c.number) (refusal cs)
 
 -- what is checked before any transition
 abbrev pub head_checks : List ℕ → List Check

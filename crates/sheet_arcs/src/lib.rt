@@ -14,70 +14,36 @@ use format::{arcs_width, entry, entry_count, outside};
 use net::{Base, Entry, MAX_ENTRIES, Place};
 
 // 7: the counts give another length, or there are no entries or too many.
+#[tactic(auto, unfolding(crate::specs::Conditions::wrong_width))]
 pub fn wrong_width(b: &[u8]) -> bool
     ensures { result ≡ wrong_width b.now }
 {
-    let width = arcs_width(b);
-    let entries = entry_count(b);
-    if b.len() != width {
-        return true;
-    }
-    outside(entries as usize, MAX_ENTRIES)
+    b.len() != arcs_width(b) || outside(usize::from(entry_count(b)), MAX_ENTRIES)
 }
 
 // An entry's base and places are there.
 fn entry_there(e: Entry, places: Place, bases: Base) -> bool
     ensures { result ≡ entry_rule places bases e }
 {
-    if bases <= e.base {
-        return false;
-    }
-    e.from < places && e.to < places
+    e.base < bases && e.from < places && e.to < places
 }
 
 fn entries_there(b: &[u8], places: Place, bases: Base) -> bool
     ensures { result ≡ all (entry_rule places bases) (arcs_in b.now).entries }
 {
-    let n = entry_count(b);
-    let mut i: u8 = 0;
-    while i < n {
-        let e = entry(b, i);
-        if !entry_there(e, places, bases) {
-            return false;
-        }
-        i += 1;
-    }
-    true
-}
-
-fn base_before(e: Entry, d: Entry) -> bool
-    ensures { result ≡ ltb e.base d.base }
-{
-    e.base < d.base
+    (0..entry_count(b)).all(|i| entry_there(entry(b, i), places, bases))
 }
 
 fn entries_ascend(b: &[u8]) -> bool
     ensures { result ≡ ascends (λ e d. ltb e.base d.base) (arcs_in b.now).entries }
 {
-    let n = entry_count(b);
-    let mut i: u8 = 0;
-    while i as usize + 1 < n as usize {
-        let e = entry(b, i);
-        let d = entry(b, i + 1);
-        if !base_before(e, d) {
-            return false;
-        }
-        i += 1;
-    }
-    true
+    (1..entry_count(b)).all(|i| entry(b, i - 1).base < entry(b, i).base)
 }
 
 // 8: an entry names what is not there, or the bases do not ascend.
+#[tactic(auto, unfolding(crate::specs::Conditions::wrong_entries))]
 pub fn wrong_entries(b: &[u8], places: Place, bases: Base) -> bool
     ensures { result ≡ wrong_entries places bases b.now }
 {
-    if !entries_there(b, places, bases) {
-        return true;
-    }
-    !entries_ascend(b)
+    !entries_there(b, places, bases) || !entries_ascend(b)
 }

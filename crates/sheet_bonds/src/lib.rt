@@ -25,43 +25,17 @@ fn side(e: Entry, out: bool) -> Place
 fn bonds_ascend(b: &[u8], out: bool) -> bool
     ensures { result ≡ ascends less_bond (side_bonds b.now out) }
 {
-    let n = bond_count(b, out);
-    let mut i: u8 = 0;
-    while i as usize + 1 < n as usize {
-        let x = nth_bond(b, out, i);
-        let y = nth_bond(b, out, i + 1);
-        if !bond_before(x, y) {
-            return false;
-        }
-        i += 1;
-    }
-    true
+    (1..bond_count(b, out)).all(|i| bond_before(nth_bond(b, out, i - 1), nth_bond(b, out, i)))
 }
 
-// Whether d is the entry of `hi` and agrees with the place `at`.
-fn is_partner(d: Entry, out: bool, hi: Base, at: Place) -> bool
-    ensures { result ≡ (eqb d.base hi && eqb at (side_of out d)) }
-{
-    if d.base != hi {
-        return false;
-    }
-    let p = side(d, out);
-    at == p
-}
-
+// Whether there is an entry of `hi` that agrees with the place `at`.
 fn has_partner(b: &[u8], out: bool, hi: Base, at: Place) -> bool
     ensures { result ≡ any (λ d. eqb d.base hi && eqb at (side_of out d)) (arcs_in b.now).entries }
 {
-    let n = entry_count(b);
-    let mut i: u8 = 0;
-    while i < n {
+    (0..entry_count(b)).any(|i| {
         let d = entry(b, i);
-        if is_partner(d, out, hi, at) {
-            return true;
-        }
-        i += 1;
-    }
-    false
+        d.base == hi && at == side(d, out)
+    })
 }
 
 // Whether e is the entry of the lower base of x, and one of the higher base agrees with it.
@@ -69,61 +43,31 @@ fn starts(b: &[u8], out: bool, x: Bond, e: Entry) -> bool
     ensures { result ≡ (eqb e.base x.lo
         && any (λ d. eqb d.base x.hi && eqb (side_of out e) (side_of out d)) (arcs_in b.now).entries) }
 {
-    if e.base != x.lo {
-        return false;
-    }
-    let at = side(e, out);
-    has_partner(b, out, x.hi, at)
+    e.base == x.lo && has_partner(b, out, x.hi, side(e, out))
 }
 
 fn bond_joins(b: &[u8], out: bool, x: Bond) -> bool
     ensures { result ≡ joins (side_of out) (arcs_in b.now).entries x }
 {
-    if x.hi <= x.lo {
-        return false;
-    }
-    let n = entry_count(b);
-    let mut i: u8 = 0;
-    while i < n {
-        let e = entry(b, i);
-        if starts(b, out, x, e) {
-            return true;
-        }
-        i += 1;
-    }
-    false
+    x.lo < x.hi && (0..entry_count(b)).any(|i| starts(b, out, x, entry(b, i)))
 }
 
 fn bonds_join(b: &[u8], out: bool) -> bool
     ensures { result ≡ all (joins (side_of out) (arcs_in b.now).entries) (side_bonds b.now out) }
 {
-    let n = bond_count(b, out);
-    let mut i: u8 = 0;
-    while i < n {
-        let x = nth_bond(b, out, i);
-        if !bond_joins(b, out, x) {
-            return false;
-        }
-        i += 1;
-    }
-    true
+    (0..bond_count(b, out)).all(|i| bond_joins(b, out, nth_bond(b, out, i)))
 }
 
 fn bonds_good(b: &[u8], out: bool) -> bool
     ensures { result ≡ bonds_rule (side_of out) (arcs_in b.now).entries (side_bonds b.now out) }
 {
-    if !bonds_ascend(b, out) {
-        return false;
-    }
-    bonds_join(b, out)
+    bonds_ascend(b, out) && bonds_join(b, out)
 }
 
 // 9: a coupling of one side or the other is against the rule. An in-coupling need not be an out-coupling (document 02, T-07).
+#[tactic(auto, unfolding(crate::specs::Conditions::wrong_bonds))]
 pub fn wrong_bonds(b: &[u8]) -> bool
     ensures { result ≡ wrong_bonds b.now }
 {
-    if !bonds_good(b, false) {
-        return true;
-    }
-    !bonds_good(b, true)
+    !bonds_good(b, false) || !bonds_good(b, true)
 }

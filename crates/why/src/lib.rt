@@ -51,8 +51,7 @@ fn number_in(a: Answer) -> u8
     ensures { result ≡ answer_number a }
 {
     match a {
-        Answer::Fired => 0,
-        Answer::Undone => 0,
+        Answer::Fired | Answer::Undone => 0,
         Answer::Refused(n) => n,
     }
 }
@@ -66,18 +65,14 @@ fn number_of(r: Record, sheet: &[u8], bytes: &[u8]) -> u8
         undone: 0,
         refused: 0,
     };
-    let counted = command_with(r, sheet, bytes, zero);
-    let o = counted.outcome;
-    let a = o.answer;
-    number_in(a)
+    number_in(command_with(r, sheet, bytes, zero).outcome.answer)
 }
 
 // The bytes of the step that a command of kind 1 names.
 fn step_named<'a>(sheet: &'a [u8], bytes: &[u8]) -> &'a [u8]
     ensures { result.now ≡ transition_bytes sheet.now (transition_named bytes.now) }
 {
-    let n = word_at(bytes, 1) as u16;
-    transition_bytes(sheet, Transition(n))
+    transition_bytes(sheet, Transition(word_at(bytes, 1) as u16))
 }
 
 // 13. The command is refused by that number, on a sound record and an accepted sheet, here and below: `reason_by` has seen it.
@@ -86,12 +81,10 @@ fn why_away(r: Record, sheet: &[u8], bytes: &[u8]) -> Reason
     ensures { result ≡ away_by (arcs_of (net_of sheet.now) (transition_named bytes.now)) (held_in sheet.now r).marking }
 {
     let step = step_named(sheet, bytes);
-    let m = r.marking;
-    let places = m.places;
+    let places = r.marking.places;
     let i = first_away(step, &places);
     let e = entry(step, i);
-    let base = e.base as usize;
-    let at = places[base];
+    let at = places[usize::from(e.base)];
     Reason::Away(e, at)
 }
 
@@ -102,11 +95,8 @@ fn why_absent(r: Record, sheet: &[u8], bytes: &[u8]) -> Reason
 {
     let step = step_named(sheet, bytes);
     let m = r.marking;
-    let lo = m.lo;
-    let hi = m.hi;
-    let i = first_absent(step, &lo, &hi, m.count);
-    let b = in_bond(step, i);
-    Reason::Absent(b)
+    let i = first_absent(step, &m.lo, &m.hi, m.count);
+    Reason::Absent(in_bond(step, i))
 }
 
 // 15.
@@ -116,11 +106,8 @@ fn why_present(r: Record, sheet: &[u8], bytes: &[u8]) -> Reason
 {
     let step = step_named(sheet, bytes);
     let m = r.marking;
-    let lo = m.lo;
-    let hi = m.hi;
-    let i = first_present(step, &lo, &hi, m.count);
-    let b = out_bond(step, i);
-    Reason::Present(b)
+    let i = first_present(step, &m.lo, &m.hi, m.count);
+    Reason::Present(out_bond(step, i))
 }
 
 // 16: by labels of the bonds after the firing: those that it does not break, and its out-bonds.
@@ -145,12 +132,11 @@ fn why_torn(r: Record, sheet: &[u8], bytes: &[u8]) -> Reason
 fn why_not_live(bytes: &[u8]) -> Reason
     ensures { result ≡ not_live_by bytes.now }
 {
-    let kind = byte_at(bytes, 0);
-    let n = word_at(bytes, 1) as u16;
-    if kind == 2 {
-        return Reason::NoneLive;
+    if byte_at(bytes, 0) == 2 {
+        Reason::NoneLive
+    } else {
+        Reason::NotLive(Key(word_at(bytes, 1) as u16))
     }
-    Reason::NotLive(Key(n))
 }
 
 // The key that a command of kind 2 or 3 means. `why_later` has a sound record.
@@ -159,12 +145,11 @@ fn key_named(r: Record, sheet: &[u8], bytes: &[u8]) -> Key
     ensures { result ≡ key_named (held_in sheet.now r) bytes.now }
 {
     let f = r.firings;
-    let kind = byte_at(bytes, 0);
-    let n = word_at(bytes, 1) as u16;
-    if kind == 2 {
-        return last_key(&f.keys, f.live);
+    if byte_at(bytes, 0) == 2 {
+        last_key(&f.keys, f.live)
+    } else {
+        Key(word_at(bytes, 1) as u16)
     }
-    Key(n)
 }
 
 // 20.
@@ -179,8 +164,7 @@ fn why_later(r: Record, sheet: &[u8], bytes: &[u8]) -> Reason
     let mine = firing_at(&f.transitions, &f.keys, &f.moved, i);
     let other = firing_at(&f.transitions, &f.keys, &f.moved, at);
     let p = first_common(mine.moved, other.moved);
-    let later = other.key;
-    Reason::Later(later, p as u8)
+    Reason::Later(other.key, p as u8)
 }
 
 // By the number of the command's own checks. `why` has seen that the sheet is accepted and the record sound.
@@ -210,11 +194,10 @@ pub fn why(r: Record, sheet: &[u8], bytes: &[u8]) -> Reason
 {
     let refusal = r.refusal_on(sheet);
     if refusal == 10 {
-        return Reason::Record;
+        Reason::Record
+    } else if refusal != 0 {
+        Reason::Sheet
+    } else {
+        reason_by(r, sheet, bytes, number_of(r, sheet, bytes))
     }
-    if refusal != 0 {
-        return Reason::Sheet;
-    }
-    let n = number_of(r, sheet, bytes);
-    reason_by(r, sheet, bytes, n)
 }

@@ -1,33 +1,19 @@
 -- `forms::nth_number`: the answers to the goals that the check leaves.
-use mathlib.Core.Bool.{Bool, ◌&&◌}
-use lib.Dec.{eqb}
-use Rattle.forms.proofs.Rows.{number-none, number-here, number-later}
-use borrow.Author.Rules.{rules}
-use native.Mathlib.Omega.{arith}
-use mathlib.Core.Path.{◌≡◌, ap, sym, ◌∙◌}
-use lib.ListN.{drop}
+use Rattle.std.proofs.Common.{◌≡◌, ◌-◌, ◌+◌, drop, ◌∙◌, arith}
+use Rattle.forms.proofs.Rows.{skip-number, skip-other}
 use Rattle.forms.proofs.nth_number.Goals as goal
-use Rattle.forms.proofs.nth_number.Goals.{At-loop-left}
+use Rattle.forms.proofs.nth_number.Goals.{in-Number-2, in_default}
 
-pub returns-then-over : goal.returns-then-over
-returns-then-over c =
-    number-none c.args.text.now (drop c.loop-left.i c.args.text.now) _ c.next-p.ensures c.loop-left.left c.loop-left.skip
-    c.loop-left-test.true (sym c.closes-over.ensures ∙ c.if-over.true) ∙ c.loop-left.invariant.1
-
-pub returns-then-here : goal.returns-then-here
-returns-then-here c =
-    c.value_in.ensures ∙ number-here c.args.text.now (drop c.loop-left.i c.args.text.now) _ c.next-p.ensures c.loop-left.left
-    c.loop-left.skip c.loop-left-test.true (sym c.closes-over.ensures ∙ c.if-over.false)
-    (ap (λ (b : Bool). b && eqb c.loop-left.skip 0) (sym c.is_number-counts.ensures) ∙ sym c.is_here-here.ensures ∙ c.if-here.true) ∙ c.loop-left.invariant.1
-
-pub loop-left-preserved : goal.loop-left-preserved
-loop-left-preserved c = (
-  search rules,
-  rw (c.one_less-skip.ensures, c.is_number-counts.ensures)
-      (number-later c.args.text.now (drop c.loop-left.i c.args.text.now) _ c.next-p.ensures c.loop-left.left c.loop-left.skip c.loop-left-test.true (sym c.closes-over.ensures ∙ c.if-over.false) (ap (λ (b : Bool). b && eqb c.loop-left.skip 0) (sym c.is_number-counts.ensures) ∙ sym c.is_here-here.ensures ∙ c.if-here.false) ∙ c.loop-left.invariant.1),
-)
-
-pub returns : goal.returns
-returns c =
-    let z : c.loop-left.left ≡ 0 = omega arith in
-    rw z at c.loop-left.invariant.1
+pub loop-preserved : goal.loop-preserved
+loop-preserved c =
+    let s = c.args.text.now in
+    let r = drop c.loop.i s in
+    let m = c.args.n - c.loop.counter in
+    let e : m - 1 ≡ c.args.n - (c.loop.counter + 1) = omega arith in
+    record {
+      in_text = c.next-p.ensures.within;
+      rest = rw (← e) (elim c.match-p.branch [
+        | in-Number-2 w ↦ skip-number s r _ c.next-p.ensures m _ _ (omega arith) w.in-Number.is w.if-skip-eq0.false _ w.skip-is ∙ c.loop.invariant.rest
+        | in_default w ↦ skip-other s r _ c.next-p.ensures m _ (omega arith) (record { no_number = w.in_default.not-Number; no_line = w.in_default.not-Line; no_end = w.in_default.not-End }) _ w.skip-is ∙ c.loop.invariant.rest
+      ]);
+    }

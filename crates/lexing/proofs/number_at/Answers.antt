@@ -1,13 +1,10 @@
 -- `lexing::number_at`: the answers to the goals that the check leaves.
-use Rattle.lexing.proofs.Scans.{number-stands, number-joins, number-wrong}
-use mathlib.Core.Path.{sym, ◌∙◌}
+use Rattle.lexing.proofs.Scans.{number-stands, number-joins}
+use Rattle.std.proofs.Common.{sym, ◌∙◌}
 use Rattle.lexing.proofs.number_at.Goals as goal
 
-pub returns-then-done : goal.returns-then-done
-returns-then-done c = number-stands c.args.text.now c.args.from _ c.end_of-to.ensures _ c.value_of-n.ensures (sym c.ends_at-done.ensures ∙ c.if-done.true)
+pub returns-then-ends_at : goal.returns-then-ends_at
+returns-then-ends_at c = number-stands c.args.text.now c.args.from _ c.end_of-to.ensures _ c.value_of.ensures (sym c.ends_at.ensures ∙ c.if-ends_at.true)
 
-pub returns-then-joined : goal.returns-then-joined
-returns-then-joined c = number-joins c.args.text.now c.args.from _ c.end_of-to.ensures _ c.value_of-n.ensures (sym c.ends_at-done.ensures ∙ c.if-done.false) (sym c.joins_at-joined.ensures ∙ c.if-joined.true)
-
-pub returns : goal.returns
-returns c = number-wrong c.args.text.now c.args.from _ c.end_of-to.ensures (sym c.ends_at-done.ensures ∙ c.if-done.false) (sym c.joins_at-joined.ensures ∙ c.if-joined.false)
+pub returns-then-joins_at : goal.returns-then-joins_at
+returns-then-joins_at c = number-joins c.args.text.now c.args.from _ c.end_of-to.ensures _ c.value_of.ensures (sym c.ends_at.ensures ∙ c.if-ends_at.false) (sym c.joins_at.ensures ∙ c.if-joins_at.true)

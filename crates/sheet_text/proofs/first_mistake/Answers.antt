@@ -9,33 +9,35 @@ use mathlib.Core.List.{List}
 use Rattle.sheet_text.proofs.first_mistake.Goals as goal
 
 pub loop-at-init : goal.loop-at-init
-loop-at-init c = (search rules, search rules, search rules, search rules, rest-begin _)
+loop-at-init c = record { in_text = search rules; few_parts = search rules; few_steps = search rules; few_lines = search rules; rest = rest-begin _ }
 
-pub returns-then-not-fine : goal.returns-then-not-fine
-returns-then-not-fine c =
+pub returns-then-not-admits : goal.returns-then-not-admits
+returns-then-not-admits c =
     let s : List ℕ = c.args.text.now in
     let h = c.end_of-to.ensures in
-    c.at_line.ensures ∙ rest-refused s c.loop-at.at c.loop-at.k c.loop-at.told c.loop-at.parts c.loop-at.steps c.loop-at.invariant.4 _ h _ c.line_at-l.ensures
-    (sym c.admitted-fine.ensures ∙ c.if-not-fine.true)
+    rest-refused s c.loop-at.at c.loop-at.line c.loop-at.seen.told c.loop-at.seen.parts c.loop-at.seen.steps c.loop-at.invariant.rest _ h _ c.line_at-what.ensures
+    (sym c.admits.ensures ∙ c.if-not-admits.true)
 
 pub returns-then-text-to : goal.returns-then-text-to
 returns-then-text-to c =
     let s : List ℕ = c.args.text.now in
     let h = c.end_of-to.ensures in
-    c.at_line-then-text-to.ensures ∙ rest-last s c.loop-at.at c.loop-at.k c.loop-at.told c.loop-at.parts c.loop-at.steps c.loop-at.invariant.4 _ _
-    (line-last s c.loop-at.at _ h c.if-text-to.true) c.line_at-l.ensures (sym c.admitted-fine.ensures ∙ c.if-not-fine.false)
+    rest-last s c.loop-at.at c.loop-at.line c.loop-at.seen.told c.loop-at.seen.parts c.loop-at.seen.steps c.loop-at.invariant.rest _ _
+    (line-last s c.loop-at.at _ h c.if-text-to.true) c.line_at-what.ensures (sym c.admits.ensures ∙ c.if-not-admits.false)
 
 pub loop-at-preserved : goal.loop-at-preserved
 loop-at-preserved c =
     let s : List ℕ = c.args.text.now in
-    let h = c.end_of-to.ensures in (
-      search rules,
-      rw c.counted-c.ensures (let z = few-parts c.loop-at.told c.loop-at.parts c.loop-at.steps c.line_at-l.result in omega (arith, h.from)),
-      rw c.counted-c.ensures (let z = few-steps c.loop-at.told c.loop-at.parts c.loop-at.steps c.line_at-l.result in omega (arith, h.from)),
-      omega (arith, h.from),
-      rw c.counted-c.ensures
-          (rest-on s c.loop-at.at c.loop-at.k c.loop-at.told c.loop-at.parts c.loop-at.steps c.loop-at.invariant.4 _ _ _ (line-here s c.loop-at.at _ h c.if-text-to.false) c.line_at-l.ensures (sym c.admitted-fine.ensures ∙ c.if-not-fine.false) _ refl),
-    )
+    let h = c.end_of-to.ensures in
+    let seen = c.loop-at.seen in
+    record {
+      in_text = search rules;
+      few_parts = rw c.with-seen.ensures (let z = few-parts seen.told seen.parts seen.steps c.line_at-what.result in omega (arith, h.from));
+      few_steps = rw c.with-seen.ensures (let z = few-steps seen.told seen.parts seen.steps c.line_at-what.result in omega (arith, h.from));
+      few_lines = omega (arith, h.from);
+      rest = rw c.with-seen.ensures
+          (rest-on s c.loop-at.at c.loop-at.line seen.told seen.parts seen.steps c.loop-at.invariant.rest _ _ _ (line-here s c.loop-at.at _ h c.if-text-to.false) c.line_at-what.ensures (sym c.admits.ensures ∙ c.if-not-admits.false) _ refl);
+    }
 
 pub returns : goal.returns
-returns c = c.at_line-2.ensures ∙ rest_end c.args.text.now c.loop-at.at c.loop-at.k c.loop-at.told c.loop-at.parts c.loop-at.steps c.loop-at.invariant.4 (omega arith)
+returns c = rest_end c.args.text.now c.loop-at.at c.loop-at.line c.loop-at.seen.told c.loop-at.seen.parts c.loop-at.seen.steps c.loop-at.invariant.rest (omega arith)

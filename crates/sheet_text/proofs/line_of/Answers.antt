@@ -8,59 +8,59 @@ use lib.ListN.{drop}
 use mathlib.Core.List.{List}
 use Rattle.sheet_text.proofs.line_of.Goals as goal
 
-pub returns-then-nothing : goal.returns-then-nothing
+pub returns-then-has_form : goal.returns-then-has_form
 unfolding line_of
-returns-then-nothing c =
+returns-then-has_form c =
     let ts : List Token = row 8 (drop c.args.at c.args.text.now) in
-    rw (is-blank ts _ true (c.has_form-nothing.ensures, c.if-nothing.true))
+    rw (is-blank ts _ true (c.has_form.ensures, c.if-has_form.true))
 
-pub returns-then-places : goal.returns-then-places
+pub returns-then-has_form-2 : goal.returns-then-has_form-2
 unfolding line_of
-returns-then-places c =
+returns-then-has_form-2 c =
     let ts : List Token = row 8 (drop c.args.at c.args.text.now) in
-    rw (is-blank ts _ false (c.has_form-nothing.ensures, c.if-nothing.false), is-places ts _ true (c.has_form-places.ensures, c.if-places.true)) (λ i. Places (c.nth_number-p.ensures i))
+    rw (is-blank ts _ false (c.has_form.ensures, c.if-has_form.false), is-places ts _ true (c.has_form-else-has_form.ensures, c.if-has_form-2.true)) (λ i. Places (c.nth_number-p.ensures i))
 
-pub returns-then-part : goal.returns-then-part
+pub returns-then-has_form-3 : goal.returns-then-has_form-3
 unfolding line_of
-returns-then-part c =
+returns-then-has_form-3 c =
     let ts : List Token = row 8 (drop c.args.at c.args.text.now) in
     rw (
-      is-blank ts _ false (c.has_form-nothing.ensures, c.if-nothing.false),
-      is-places ts _ false (c.has_form-places.ensures, c.if-places.false),
-      is-part ts _ true (c.has_form-part.ensures, c.if-part.true),
+      is-blank ts _ false (c.has_form.ensures, c.if-has_form.false),
+      is-places ts _ false (c.has_form-else-has_form.ensures, c.if-has_form-2.false),
+      is-part ts _ true (c.has_form-else-has_form-2.ensures, c.if-has_form-3.true),
     ) (λ i. Part (c.nth_number-p.ensures i) (c.nth_number-q.ensures i))
 
-pub returns-then-coupled : goal.returns-then-coupled
+pub returns-then-has_form-4 : goal.returns-then-has_form-4
 unfolding line_of
-returns-then-coupled c =
+returns-then-has_form-4 c =
     let ts : List Token = row 8 (drop c.args.at c.args.text.now) in
     rw (
-      is-blank ts _ false (c.has_form-nothing.ensures, c.if-nothing.false),
-      is-places ts _ false (c.has_form-places.ensures, c.if-places.false),
-      is-part ts _ false (c.has_form-part.ensures, c.if-part.false),
-      is-coupled ts _ true (c.has_form-coupled.ensures, c.if-coupled.true),
+      is-blank ts _ false (c.has_form.ensures, c.if-has_form.false),
+      is-places ts _ false (c.has_form-else-has_form.ensures, c.if-has_form-2.false),
+      is-part ts _ false (c.has_form-else-has_form-2.ensures, c.if-has_form-3.false),
+      is-coupled ts _ true (c.has_form-else-has_form-3.ensures, c.if-has_form-4.true),
     ) (λ i. Coupled (c.nth_number-p.ensures i) (c.nth_number-q.ensures i))
 
-pub returns-then-step : goal.returns-then-step
+pub returns-then-has_form-5 : goal.returns-then-has_form-5
 unfolding line_of
-returns-then-step c =
+returns-then-has_form-5 c =
     let ts : List Token = row 8 (drop c.args.at c.args.text.now) in
     rw (
-      is-blank ts _ false (c.has_form-nothing.ensures, c.if-nothing.false),
-      is-places ts _ false (c.has_form-places.ensures, c.if-places.false),
-      is-part ts _ false (c.has_form-part.ensures, c.if-part.false),
-      is-coupled ts _ false (c.has_form-coupled.ensures, c.if-coupled.false),
-      is-step ts _ true (c.has_form-step.ensures, c.if-step.true),
+      is-blank ts _ false (c.has_form.ensures, c.if-has_form.false),
+      is-places ts _ false (c.has_form-else-has_form.ensures, c.if-has_form-2.false),
+      is-part ts _ false (c.has_form-else-has_form-2.ensures, c.if-has_form-3.false),
+      is-coupled ts _ false (c.has_form-else-has_form-3.ensures, c.if-has_form-4.false),
+      is-step ts _ true (c.has_form-else-has_form-4.ensures, c.if-has_form-5.true),
     ) (λ i. Step (c.nth_number-p.ensures i))
 
-pub returns : goal.returns
+pub returns-else-has_form-5 : goal.returns-else-has_form-5
 unfolding line_of
-returns c =
+returns-else-has_form-5 c =
     let ts : List Token = row 8 (drop c.args.at c.args.text.now) in
     rw (
-      is-blank ts _ false (c.has_form-nothing.ensures, c.if-nothing.false),
-      is-places ts _ false (c.has_form-places.ensures, c.if-places.false),
-      is-part ts _ false (c.has_form-part.ensures, c.if-part.false),
-      is-coupled ts _ false (c.has_form-coupled.ensures, c.if-coupled.false),
-      is-step ts _ false (c.has_form-step.ensures, c.if-step.false),
+      is-blank ts _ false (c.has_form.ensures, c.if-has_form.false),
+      is-places ts _ false (c.has_form-else-has_form.ensures, c.if-has_form-2.false),
+      is-part ts _ false (c.has_form-else-has_form-2.ensures, c.if-has_form-3.false),
+      is-coupled ts _ false (c.has_form-else-has_form-3.ensures, c.if-has_form-4.false),
+      is-step ts _ false (c.has_form-else-has_form-4.ensures, c.if-has_form-5.false),
     ) c.step_line.ensures

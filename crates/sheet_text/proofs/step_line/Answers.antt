@@ -8,30 +8,30 @@ use lib.ListN.{drop}
 use mathlib.Core.List.{List}
 use Rattle.sheet_text.proofs.step_line.Goals as goal
 
-pub returns-then-moves : goal.returns-then-moves
+pub returns-then-has_form : goal.returns-then-has_form
 unfolding step_line_of
-returns-then-moves c =
+returns-then-has_form c =
     let ts : List Token = row 8 (drop c.args.at c.args.text.now) in
-    rw (is_move ts _ true (c.has_form-moves.ensures, c.if-moves.true)) (λ i. Move (c.nth_number-p.ensures i) (c.nth_number-q.ensures i) (c.nth_number-o.ensures i))
+    rw (is_move ts _ true (c.has_form.ensures, c.if-has_form.true)) (λ i. Move (c.nth_number-p.ensures i) (c.nth_number-q.ensures i) (c.nth_number.ensures i))
 
-pub returns-then-needs : goal.returns-then-needs
+pub returns-then-has_form-2 : goal.returns-then-has_form-2
 unfolding step_line_of
-returns-then-needs c =
+returns-then-has_form-2 c =
     let ts : List Token = row 8 (drop c.args.at c.args.text.now) in
-    rw (is_move ts _ false (c.has_form-moves.ensures, c.if-moves.false), is-before ts _ true (c.has_form-needs.ensures, c.if-needs.true)) (λ i. Before (c.nth_number-p.ensures i) (c.nth_number-q.ensures i))
+    rw (is_move ts _ false (c.has_form.ensures, c.if-has_form.false), is-before ts _ true (c.has_form-else-has_form.ensures, c.if-has_form-2.true)) (λ i. Before (c.nth_number-p.ensures i) (c.nth_number-q.ensures i))
 
-pub returns-then-leaves : goal.returns-then-leaves
+pub returns-then-has_form-3 : goal.returns-then-has_form-3
 unfolding step_line_of
-returns-then-leaves c =
+returns-then-has_form-3 c =
     let ts : List Token = row 8 (drop c.args.at c.args.text.now) in
     rw (
-      is_move ts _ false (c.has_form-moves.ensures, c.if-moves.false),
-      is-before ts _ false (c.has_form-needs.ensures, c.if-needs.false),
-      is-after ts _ true (c.has_form-leaves.ensures, c.if-leaves.true),
+      is_move ts _ false (c.has_form.ensures, c.if-has_form.false),
+      is-before ts _ false (c.has_form-else-has_form.ensures, c.if-has_form-2.false),
+      is-after ts _ true (c.has_form-else-has_form-2.ensures, c.if-has_form-3.true),
     ) (λ i. After (c.nth_number-p.ensures i) (c.nth_number-q.ensures i))
 
-pub returns : goal.returns
+pub returns-else-has_form-3 : goal.returns-else-has_form-3
 unfolding step_line_of
-returns c =
+returns-else-has_form-3 c =
     let ts : List Token = row 8 (drop c.args.at c.args.text.now) in
-    rw (is_move ts _ false (c.has_form-moves.ensures, c.if-moves.false), is-before ts _ false (c.has_form-needs.ensures, c.if-needs.false), is-after ts _ false (c.has_form-leaves.ensures, c.if-leaves.false))
+    rw (is_move ts _ false (c.has_form.ensures, c.if-has_form.false), is-before ts _ false (c.has_form-else-has_form.ensures, c.if-has_form-2.false), is-after ts _ false (c.has_form-else-has_form-2.ensures, c.if-has_form-3.false))

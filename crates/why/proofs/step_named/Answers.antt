@@ -6,4 +6,4 @@ use Rattle.format.specs.Parts.{transition_bytes}
 use Rattle.why.proofs.step_named.Goals as goal
 
 pub returns : goal.returns
-returns c = c.transition_bytes.ensures ∙ ap (λ (n : ℕ). transition_bytes c.args.sheet.now (transition n)) c.word_at-n.ensures.value
+returns c = c.transition_bytes.ensures ∙ ap (λ (n : ℕ). transition_bytes c.args.sheet.now (transition n)) c.word_at.ensures.value

@@ -15,7 +15,7 @@ returns-then-refusal-ne0 c = why-sheet c.args.sheet.now c.args.r c.args.bytes.no
 pub reason_by-requires : goal.reason_by-requires
 reason_by-requires c =
     let p : Sound c.args.sheet.now c.args.r = c.refusal_on-refusal.ensures.sound c.if-refusal-ne0.false in
-    (p, c.number_of-n.ensures ∙ first-own c.args.sheet.now c.args.r c.args.bytes.now p.passed.accepted (kept-is c.args.sheet.now c.args.r.marking c.args.r.firings c.args.r.given c.args.r.movers p))
+    (p, c.number_of.ensures ∙ first-own c.args.sheet.now c.args.r c.args.bytes.now p.passed.accepted (kept-is c.args.sheet.now c.args.r.marking c.args.r.firings c.args.r.given c.args.r.movers p))
 
-pub returns : goal.returns
-returns c = why-by c.args.sheet.now c.args.r c.args.bytes.now c.number_of-n.result c.number_of-n.ensures _ c.reason_by.ensures
+pub returns-else-refusal-ne0 : goal.returns-else-refusal-ne0
+returns-else-refusal-ne0 c = why-by c.args.sheet.now c.args.r c.args.bytes.now c.number_of.result c.number_of.ensures _ c.reason_by.ensures

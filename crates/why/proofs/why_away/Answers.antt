@@ -6,8 +6,8 @@ use Rattle.why.proofs.why_away.Goals as goal
 pub first_away-i-requires : goal.first_away-i-requires
 first_away-i-requires c = entries-low c.args.sheet.now c.args.r c.args.bytes.now c.requires.sound c.step_named-step.result.now c.step_named-step.ensures
 
-pub bounds-places-base : goal.bounds-places-base
-bounds-places-base c = away-low c.args.sheet.now c.args.r c.args.bytes.now c.requires.sound c.step_named-step.result.now c.step_named-step.ensures c.requires c.first_away-i.result c.first_away-i.ensures c.entry-e.result c.entry-e.ensures
+pub bounds-places-from : goal.bounds-places-from
+bounds-places-from c = rw c.from.ensures (away-low c.args.sheet.now c.args.r c.args.bytes.now c.requires.sound c.step_named-step.result.now c.step_named-step.ensures c.requires c.first_away-i.result c.first_away-i.ensures c.entry-e.result c.entry-e.ensures)
 
 pub returns : goal.returns
-returns c = away-is c.args.sheet.now c.args.r c.args.bytes.now c.requires.sound c.step_named-step.result.now c.step_named-step.ensures c.requires c.first_away-i.result c.first_away-i.ensures c.entry-e.result c.entry-e.ensures
+returns c = rw c.from.ensures (away-is c.args.sheet.now c.args.r c.args.bytes.now c.requires.sound c.step_named-step.result.now c.step_named-step.ensures c.requires c.first_away-i.result c.first_away-i.ensures c.entry-e.result c.entry-e.ensures)

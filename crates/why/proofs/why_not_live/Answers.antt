@@ -6,8 +6,8 @@ use Rattle.why.proofs.Latest.{kind-last, kind-key}
 use Rattle.why.specs.declared.Reason.TheVariants as Reason
 use Rattle.why.proofs.why_not_live.Goals as goal
 
-pub returns-then-kind-eq2 : goal.returns-then-kind-eq2
-returns-then-kind-eq2 c = kind-last c.args.bytes.now c.byte_at-kind.result c.byte_at-kind.ensures Reason.NoneLive (Reason.NotLive (key (number_of c.args.bytes.now))) c.if-kind-eq2.true
+pub returns-then-byte_at-eq2 : goal.returns-then-byte_at-eq2
+returns-then-byte_at-eq2 c = kind-last c.args.bytes.now c.byte_at.result c.byte_at.ensures Reason.NoneLive (Reason.NotLive (key (number_of c.args.bytes.now))) c.if-byte_at-eq2.true
 
-pub returns : goal.returns
-returns c = ap (λ (n : ℕ). Reason.NotLive (key n)) c.word_at-n.ensures.value ∙ kind-key c.args.bytes.now c.byte_at-kind.result c.byte_at-kind.ensures Reason.NoneLive (Reason.NotLive (key (number_of c.args.bytes.now))) c.if-kind-eq2.false
+pub returns-else-byte_at-eq2 : goal.returns-else-byte_at-eq2
+returns-else-byte_at-eq2 c = ap (λ (n : ℕ). Reason.NotLive (key n)) c.word_at.ensures.value ∙ kind-key c.args.bytes.now c.byte_at.result c.byte_at.ensures Reason.NoneLive (Reason.NotLive (key (number_of c.args.bytes.now))) c.if-byte_at-eq2.false

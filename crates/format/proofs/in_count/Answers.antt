@@ -1,6 +1,0 @@
--- `format::in_count`: the answers to the goals that the check leaves.
-use mathlib.Core.Path.{◌∙◌}
-use Rattle.format.proofs.in_count.Goals as goal
-
-pub returns : goal.returns
-returns c = c.byte_at.ensures ∙ rw c.in_at-at.ensures.value

@@ -1,2 +1,0 @@
--- Names that the proofs of this crate's functions cite.
-pub mod Tests
