@@ -6,26 +6,23 @@ mod program;
 
 ghost use Rattle.std.specs.Prelude.{◌<◌, ◌≤◌};
 
-use crate::program::{Task, take_file, take_named};
-use script_lines::same::same_bytes;
+use crate::program::{make_input, run, take_file, take_named};
+use script_make::files::show;
 use std::env::{Env, FillError};
 
 // Whether an argument is a word.
 fn is_word(rt: &HostRuntime, i: usize, word: &[u8]) -> bool {
     let mut arg = io::buffer();
     match rt.arg(i, &mut arg) {
-        Ok(n) => same_bytes(&arg[..n], word),
+        Ok(n) => &arg[..n] == word,
         Err(_) => false,
     }
 }
 
 // Whether there is an argument at i.
 fn is_given(rt: &HostRuntime, i: usize) -> bool {
-    let mut arg = [0u8; 1];
-    match rt.arg(i, &mut arg) {
-        Err(FillError::NotPresent) => false,
-        _ => true,
-    }
+    let mut arg = [0; 1];
+    !matches!(rt.arg(i, &mut arg), Err(FillError::NotPresent))
 }
 
 // How many arguments there are, the program's name among them.
@@ -38,42 +35,24 @@ fn count_arguments(rt: &HostRuntime) -> usize {
     usize::MAX
 }
 
-// What the argument at i says: a task for the next one, or nothing.
-fn task_at(rt: &HostRuntime, i: usize) -> Task {
-    if is_word(rt, i, b"make") {
-        return Task::Make;
-    }
-    if is_word(rt, i, b"show") {
-        return Task::Show;
-    }
-    Task::Script
-}
-
-// The file at i, or the task at i with the file behind it. Answers where the next one stands; the caller has i below count.
+// The file at i, or a task at i with the file behind it. Answers where the next one stands; the caller has i below count.
 fn take_next(rt: &HostRuntime, i: usize, count: usize) -> usize
     requires { i < count }
     ensures { (i < result) × (result ≤ count) }
 {
     let next = i + 1;
-    let task = task_at(rt, i);
-    if next == count {
-        take_named(rt, Task::Script, i);
-        return next;
-    }
-    match task {
-        Task::Script => {
-            take_named(rt, Task::Script, i);
-            next
+    if next < count {
+        if is_word(rt, i, b"make") {
+            take_named(rt, make_input, next);
+            return next + 1;
         }
-        Task::Make => {
-            take_named(rt, Task::Make, next);
-            next + 1
-        }
-        Task::Show => {
-            take_named(rt, Task::Show, next);
-            next + 1
+        if is_word(rt, i, b"show") {
+            take_named(rt, show, next);
+            return next + 1;
         }
     }
+    take_named(rt, run, i);
+    next
 }
 
 fn take_all(rt: &HostRuntime, count: usize) {
@@ -86,7 +65,7 @@ fn take_all(rt: &HostRuntime, count: usize) {
 fn main(rt: HostRuntime) {
     let count = count_arguments(&rt);
     if count < 2 {
-        take_file(Task::Script, b"standard input", &mut rt.stdin());
+        take_file(run, b"standard input", &mut rt.stdin());
         return;
     }
     take_all(&rt, count);

@@ -1,13 +1,12 @@
 // A file at the desk: read whole, and gone through as a script, made into the exam program's input, or shown as a script.
 // Failed reads and writes are said on standard error.
-use reading::read_all;
+use reading::{Got, read_all};
 use script::desk::run_script;
-use script_make::files::{make, show};
+use script_make::files::make;
 use std::env::Env;
-use std::fmt::Write;
-use std::io::{Error, Read};
+use std::fs;
+use std::io::{Error, Read, Write};
 use std::str::from_utf8;
-use std::{fmt, fs};
 
 // Room for a script or an input, for a sheet, and for the longest answer. Only their lengths matter.
 const TEXT: usize = 1048576;
@@ -16,6 +15,7 @@ const SHEET: usize = 65536;
 
 const ANSWER: usize = 16384;
 
+// Kept: where so many zeros are written out in a function with calls, the check unfolds them, and runs out of stack.
 fn text_room() -> [u8; TEXT] {
     [0; TEXT]
 }
@@ -28,13 +28,20 @@ fn answer_room() -> [u8; ANSWER] {
     [0; ANSWER]
 }
 
-// What is done with a file.
-#[derive(Clone, Copy)]
-pub enum Task {
-    Script,
-    Make,
-    Show,
+// ---- what is done with a file: each answers whether all was written
+
+pub fn run(name: &[u8], text: &[u8]) -> bool {
+    let mut sheet = sheet_room();
+    let mut answer = answer_room();
+    run_script(name, text, &mut sheet, &mut answer)
 }
+
+pub fn make_input(name: &[u8], text: &[u8]) -> bool {
+    let mut sheet = sheet_room();
+    make(name, text, &mut sheet)
+}
+
+// ---- a file
 
 // Says on standard error what went wrong with a file.
 fn complain(name: &[u8], words: &[u8]) {
@@ -43,96 +50,68 @@ fn complain(name: &[u8], words: &[u8]) {
     io::write_all(2, words);
 }
 
-fn work(task: Task, name: &[u8], text: &[u8]) -> bool {
-    let mut sheet = sheet_room();
-    let mut answer = answer_room();
-    match task {
-        Task::Script => run_script(name, text, &mut sheet, &mut answer),
-        Task::Make => make(name, text, &mut sheet),
-        Task::Show => show(name, text),
-    }
-}
-
 // One file, read whole: nothing is done with a part of it.
-pub fn take_file<R: Read>(task: Task, name: &[u8], input: &mut R) {
+pub fn take_file<R: Read, F: Fn(&[u8], &[u8]) -> bool>(work: F, name: &[u8], input: &mut R)
+    requires { F.IsAlwaysCallable work }
+{
     let mut text = text_room();
-    let got = read_all(input, &mut text);
-    if got.failed {
-        complain(name, b": could not be read\n");
-        return;
-    }
-    if got.full {
-        complain(name, b": has more than 1048575 bytes\n");
-        return;
-    }
-    let n = got.n;
-    if !work(task, name, &text[..n]) {
-        complain(name, b": the output could not be written whole\n");
-    }
-}
-
-// The text of an error, as far as it finds room.
-#[derive(Drop)]
-struct Words {
-    text: [u8; 256],
-    n: usize,
-}
-
-impl Write for Words {
-    fn write_str(&mut self, s: &str) -> fmt::Result {
-        for b in s.as_bytes() {
-            if self.n < 256 {
-                self.text[self.n] = *b;
-                self.n += 1;
+    match read_all(input, &mut text) {
+        Got::Full(_) => complain(name, b": has more than 1048575 bytes\n"),
+        Got::Ended(n) => {
+            if !work(name, &text[..n]) {
+                complain(name, b": the output could not be written whole\n");
             }
         }
-        Ok(())
+        Got::Failed(_) => complain(name, b": could not be read\n"),
     }
 }
 
 // What the system says of an error; the library writes its number behind that.
 fn system_words(text: &[u8]) -> &[u8] {
-    match from_utf8(text) {
-        Ok(all) => match all.find(" (os error ") {
-            Some(n) => &all.as_bytes()[..n],
-            None => text,
-        },
-        Err(_) => text,
+    let Ok(all) = from_utf8(text) else {
+        return text;
+    };
+    match all.find(" (os error ") {
+        Some(n) => &all.as_bytes()[..n],
+        None => text,
     }
 }
 
 // Says on standard error why a file was not opened.
 fn complain_of(name: &[u8], error: Error) {
-    let mut words = Words {
-        text: [0; 256],
-        n: 0,
-    };
-    let _ = write!(words, "{error}");
-    let n = words.n.min(256);
+    let mut text = [0; 256];
+    let mut room = &mut text[..];
+    let _ = write!(room, "{error}");
+    let n = 256usize.saturating_sub(room.len());
     io::write_all(2, name);
     io::write_all(2, b": ");
-    io::write_all(2, system_words(&words.text[..n]));
+    io::write_all(2, system_words(&text[..n]));
     io::write_all(2, b"\n");
 }
 
 // The file of that name. The library opens only names that are text.
-fn take_path(rt: &HostRuntime, task: Task, path: &[u8]) {
-    match from_utf8(path) {
-        Ok(name) => match fs::open(rt, name) {
-            Ok(file) => {
-                let mut input = file;
-                take_file(task, path, &mut input);
-            }
-            Err(error) => complain_of(path, error),
-        },
-        Err(_) => complain(path, b": the name is not text\n"),
+fn take_path<F: Fn(&[u8], &[u8]) -> bool>(rt: &HostRuntime, work: F, path: &[u8])
+    requires { F.IsAlwaysCallable work }
+{
+    let Ok(name) = from_utf8(path) else {
+        complain(path, b": the name is not text\n");
+        return;
+    };
+    match fs::open(rt, name) {
+        Ok(file) => {
+            let mut input = file;
+            take_file(work, path, &mut input);
+        }
+        Err(error) => complain_of(path, error),
     }
 }
 
-pub fn take_named(rt: &HostRuntime, task: Task, i: usize) {
+pub fn take_named<F: Fn(&[u8], &[u8]) -> bool>(rt: &HostRuntime, work: F, i: usize)
+    requires { F.IsAlwaysCallable work }
+{
     let mut path = io::buffer();
     match rt.arg(i, &mut path) {
-        Ok(n) => take_path(rt, task, &path[..n]),
+        Ok(n) => take_path(rt, work, &path[..n]),
         Err(_) => complain(b"File name too long", b"\n"),
     }
 }

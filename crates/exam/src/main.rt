@@ -6,7 +6,7 @@ ghost use Rattle.std.specs.Prelude.{◌≡◌, length};
 ghost use Rattle.output.specs.Input.{max_input};
 
 use output::{MAX_OUTPUT, write_output};
-use reading::read_input;
+use reading::{Got, read_input};
 
 // The most that is looked at: the sheet's length, the longest sheet that it can name, the commands.
 const MAX_INPUT: usize = 262142;
@@ -18,6 +18,7 @@ fn input_room() -> [u8; MAX_INPUT]
     [0; MAX_INPUT]
 }
 
+// Kept: written out in `answer`, the check unfolds this many zeros.
 fn output_room() -> [u8; MAX_OUTPUT] {
     [0; MAX_OUTPUT]
 }
@@ -39,11 +40,10 @@ fn answer(input: &[u8]) {
 // An input that could not be read is answered on standard error alone.
 fn main(rt: HostRuntime) {
     let mut input = input_room();
-    let got = read_input(&mut rt.stdin(), &mut input);
-    if got.failed {
-        io::write_all(2, b"exam: the input could not be read\n");
-        return;
+    match read_input(&mut rt.stdin(), &mut input) {
+        Got::Full(n) | Got::Ended(n) => answer(&input[..n]),
+        Got::Failed(_) => {
+            io::write_all(2, b"exam: the input could not be read\n");
+        }
     }
-    let n = got.n;
-    answer(&input[..n]);
 }

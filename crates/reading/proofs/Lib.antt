@@ -1,2 +1,2 @@
--- Laws of a room that is read into.
+-- Laws of a room that is read into, and of how reading ended.
 pub mod Rooms

@@ -2,80 +2,56 @@
 // the commands. So a refused sheet is answered when it has been read, and the end of the input is asked for once.
 #![tactic(auto)]
 
-ghost use Rattle.std.specs.Prelude.{◌≡◌, true, false, ◌≤◌, ◌-◌, length, take};
+ghost use Rattle.std.specs.Prelude.{◌≡◌, ◌≤◌, ◌-◌, length, take, IfOk};
 ghost use Rattle.output.specs.Input.{looked_at, max_input};
+ghost use Rattle.reading.specs.Got.{got_bytes, IfFull};
 
 use format::word_at;
 use output::MAX_COMMANDS;
 use sheet::check_sheet;
+use std::io;
 use std::io::Read;
 
-// How many bytes are there; whether they are all that were asked for; whether a read failed. Where neither holds, the input
-// has ended.
+// How many bytes are there, and why no more: they are all that were asked for, the input has ended, or a read failed.
 #[derive(Clone, Copy)]
-pub struct Got {
-    pub n: usize,
-    pub full: bool,
-    pub failed: bool,
+pub enum Got {
+    Full(usize),
+    Ended(usize),
+    Failed(usize),
 }
 
-// One read: how many bytes it gave, 0 at the end of the input, and whether it failed.
-#[derive(Clone, Copy)]
-struct Part {
-    n: usize,
-    failed: bool,
-}
-
-// One read into a part of the room.
-fn read_some<R: Read>(part: &mut [u8], input: &mut R) -> Part
-    ensures { result.n ≤ length part.old }
-{
-    match input.read(part) {
-        Ok(n) => Part {
-            n: n,
-            failed: false,
-        },
-        Err(_) => Part { n: 0, failed: true },
-    }
-}
-
-// One read into the room from `at` to `to`; what lies before stays. `read_to` sees to the two.
-fn read_part<R: Read>(room: &mut [u8], at: usize, to: usize, input: &mut R) -> Part
+// One read into the room from `at` to `to`: how many bytes it gave, 0 at the end of the input. What lies before stays. `read_to`
+// sees to the two.
+fn read_part<R: Read>(room: &mut [u8], at: usize, to: usize, input: &mut R) -> io::Result<usize>
     requires { (at ≤ to) × (to ≤ length room.old) }
-    ensures { (result.n ≤ to - at) × (take at room.new ≡ take at room.old) }
+    ensures bound { IfOk result (λ n. n ≤ to - at) }
+    ensures before { take at room.new ≡ take at room.old }
 {
-    read_some(&mut room[at..to], input)
+    input.read(&mut room[at..to])
 }
 
 // Reads until the room is filled from `from` to `to`, the input ends or a read fails. What lies before stays. `read_input`
 // sees to the two.
 fn read_to<R: Read>(room: &mut [u8], from: usize, to: usize, input: &mut R) -> Got
     requires { (from ≤ to) × (to ≤ length room.old) }
-    ensures { (result.n ≤ to) × (result.full ≡ true → (result.n ≡ to) × (result.failed ≡ false))
-        × (take from room.new ≡ take from room.old) }
+    ensures bound { got_bytes result ≤ to }
+    ensures full { IfFull result (λ n. n ≡ to) }
+    ensures before { take from room.new ≡ take from room.old }
 {
     let mut at = from;
     while at < to {
-        let part = read_part(room, at, to, input);
-        if part.n == 0 {
-            return Got {
-                n: at,
-                full: false,
-                failed: part.failed,
-            };
+        match read_part(room, at, to, input) {
+            Ok(0) => return Got::Ended(at),
+            Ok(n) => at += n,
+            Err(_) => return Got::Failed(at),
         }
-        at += part.n;
     }
-    Got {
-        n: at,
-        full: true,
-        failed: false,
-    }
+    Got::Full(at)
 }
 
 // All that a file has, or as much of it as the room holds.
 pub fn read_all<R: Read>(input: &mut R, room: &mut [u8]) -> Got
-    ensures { result.n ≤ length room.old }
+    ensures { got_bytes result ≤ length room.old }
 {
     let n = room.len();
     read_to(room, 0, n, input)
@@ -85,18 +61,18 @@ pub fn read_all<R: Read>(input: &mut R, room: &mut [u8]) -> Got
 // of that length.
 pub fn read_input<R: Read>(input: &mut R, room: &mut [u8]) -> Got
     requires { max_input ≤ length room.old }
-    ensures n_in_bounds { result.n ≤ length room.old }
-    ensures n_value { result.full ≡ true → (result.n ≡ looked_at (take result.n room.new)) × (result.failed ≡ false) }
+    ensures n_in_bounds { got_bytes result ≤ length room.old }
+    ensures n_value { IfFull result (λ n. n ≡ looked_at (take n room.new)) }
 {
     let first = read_to(room, 0, 2, input);
-    if !first.full {
+    let Got::Full(_) = first else {
         return first;
-    }
+    };
     let sheet_end = 2 + word_at(room, 0);
     let second = read_to(room, 2, sheet_end, input);
-    if !second.full {
+    let Got::Full(_) = second else {
         return second;
-    }
+    };
     let checked = check_sheet(&room[2..sheet_end]);
     if checked.number() != 0 {
         return second;

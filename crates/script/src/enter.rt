@@ -4,228 +4,217 @@ ghost use Rattle.std.specs.Prelude.{◌≤◌, length};
 
 use crate::blocks::{begin_block, give_up, pass_order};
 use lexing::next;
-use script_lines::form::{ALTER, BLANK, BLOCK, EXPECT, HAND_IN, OTHER, SESSION, SHEET, is_command};
+use script_lines::form::{Form, form_of, is_command};
 use script_lines::same::same_items;
 use script_lines::say::{print_difference, print_slip};
-use script_lines::sheets::{one_more, plus, sheet_in};
-use script_lines::state::{
-    ALTERED, BROKEN, DIFFERENCES, EXPECTED, FROM, FROM_END, FROM_LINE, IN_BLOCK, LENGTH, LINE,
-    MISTAKES, OPEN, READING, STARTED, STATE, closed, mistake, tell, wrote,
-};
-use wording::part::{behind, between, front, without_comment};
+use script_lines::sheets::{Mistake, sheet_in};
+use script_lines::state::State;
+use wording::part::{behind, between, without_comment};
+use wording::put::Text;
 
-// What is left to do with a line once it is clear what it is: nothing, a session begins, a command, a block is handed in, a
-// question, an alteration.
-const NOTHING: u8 = 0;
+// A line of a script, between two positions of it.
+#[derive(Clone, Copy)]
+pub struct Line<'a> {
+    pub text: &'a [u8],
+    pub at: usize,
+    pub to: usize,
+    pub form: Form,
+}
 
-pub const BEGIN: u8 = 1;
+impl<'a> Line<'a> {
+    pub fn new(text: &'a [u8], at: usize, to: usize) -> Line<'a> {
+        Line {
+            text,
+            at,
+            to,
+            form: form_of(between(text, at, to)),
+        }
+    }
 
-pub const COMMAND: u8 = 2;
+    pub fn bytes(&self) -> &'a [u8] {
+        between(self.text, self.at, self.to)
+    }
+}
 
-pub const HAND: u8 = 3;
-
-pub const ASK: u8 = 4;
-
-pub const CHANGE: u8 = 5;
+// What is left to do with a line once it is clear what it is: a session begins, a command, a block is handed in from where its lines
+// begin, a question, an alteration.
+#[derive(Clone, Copy)]
+pub enum Left {
+    Begin,
+    Command,
+    HandIn(usize),
+    Ask,
+    Change,
+}
 
 // `sheet`: its lines are passed from the next line on. The line ends at a position.
-fn begin_sheet(d: &mut [usize; STATE], at: usize) {
-    d[READING] = 1;
-    d[FROM] = one_more(at);
-    d[FROM_LINE] = d[LINE];
-    d[STARTED] = 0;
-    d[BROKEN] = 0;
+fn begin_sheet(state: &mut State<'_>, to: usize) {
+    state.reading = true;
+    state.from = to.saturating_add(1);
+    state.from_line = state.line;
+    state.started = false;
+    state.broken = false;
 }
 
 // The sheet's lines had a mistake: nothing is run until the next sheet.
-fn break_off(name: &[u8], d: &mut [usize; STATE], slip: u8, line: usize) {
-    let written = print_slip(1, name, plus(d[FROM_LINE], line), slip);
-    wrote(d, written);
-    d[MISTAKES] = one_more(d[MISTAKES]);
-    d[BROKEN] = 1;
+fn break_off(state: &mut State<'_>, m: Mistake) {
+    let line = state.from_line.saturating_add(m.line);
+    let written = print_slip(1, state.name, line, m.slip);
+    state.wrote(written);
+    state.mistakes = state.mistakes.saturating_add(1);
+    state.broken = true;
 }
 
 // The sheet whose lines end at a position of the text is read.
-pub fn read_lines(name: &[u8], text: &[u8], at: usize, d: &mut [usize; STATE], sheet: &mut [u8])
+pub fn read_lines(text: &[u8], to: usize, state: &mut State<'_>, sheet: &mut [u8])
     requires { 65536 ≤ length sheet.old }
 {
-    let g = sheet_in(between(text, d[FROM], at), sheet);
-    d[READING] = 0;
-    d[FROM_END] = at;
-    d[ALTERED] = 0;
-    d[LENGTH] = g.n;
-    if !g.fine {
-        break_off(name, d, g.slip, g.line);
+    state.reading = false;
+    state.from_end = to;
+    state.altered = false;
+    match sheet_in(between(text, state.from, to), sheet) {
+        Ok(n) => state.length = n,
+        Err(m) => {
+            state.length = 0;
+            break_off(state, m);
+        }
     }
 }
 
-// A session more is on the sheet as it was read.
-fn begin_again(name: &[u8], text: &[u8], d: &mut [usize; STATE], sheet: &mut [u8])
+// `session`. A session more is on the sheet as it was read.
+fn session_line(line: Line<'_>, state: &mut State<'_>, sheet: &mut [u8]) -> Option<Left>
     requires { 65536 ≤ length sheet.old }
 {
-    if d[ALTERED] != 0 {
-        read_lines(name, text, d[FROM_END], d, sheet);
+    if state.started {
+        if state.altered {
+            read_lines(line.text, state.from_end, state, sheet);
+        }
+        return Some(Left::Begin);
     }
-}
-
-// `session`
-fn session_line(name: &[u8], text: &[u8], at: usize, d: &mut [usize; STATE], sheet: &mut [u8]) -> u8
-    requires { 65536 ≤ length sheet.old }
-{
-    if d[STARTED] != 0 {
-        begin_again(name, text, d, sheet);
-        return BEGIN;
+    if state.broken {
+        return None;
     }
-    if d[BROKEN] != 0 {
-        return NOTHING;
+    if !state.reading {
+        state.mistake(b"`sheet` and its lines before `session`");
+        return None;
     }
-    if d[READING] == 0 {
-        mistake(name, d, b"`sheet` and its lines before `session`");
-        return NOTHING;
+    read_lines(line.text, line.at, state, sheet);
+    if state.broken {
+        None
+    } else {
+        Some(Left::Begin)
     }
-    read_lines(name, text, at, d, sheet);
-    if d[BROKEN] != 0 { NOTHING } else { BEGIN }
 }
 
 // Whether the answer that waits is the rest of the line; if not, both are printed.
-fn met(name: &[u8], d: &mut [usize; STATE], wanted: &[u8], came: &[u8]) -> bool {
-    d[EXPECTED] = one_more(d[EXPECTED]);
+fn met(state: &mut State<'_>, wanted: &[u8], came: &[u8]) -> bool {
+    state.expected = state.expected.saturating_add(1);
     if same_items(wanted, came) {
         return true;
     }
-    d[DIFFERENCES] = one_more(d[DIFFERENCES]);
-    print_difference(name, d[LINE], wanted, came)
+    state.differences = state.differences.saturating_add(1);
+    print_difference(state.name, state.line, wanted, came)
 }
 
 // `expect`
-fn expect_line(name: &[u8], line: &[u8], d: &mut [usize; STATE], answer: &[u8]) {
-    if d[OPEN] == 0 {
-        mistake(name, d, b"`expect` behind a command or a question");
+fn expect_line(line: &[u8], state: &mut State<'_>, answer: &Text) {
+    if state.waiting.is_none() {
+        state.mistake(b"`expect` behind a command or a question");
         return;
     }
     let word = next(line, 0);
     let wanted = behind(without_comment(line), word.to);
-    let came = front(answer, d[OPEN]);
-    let written = met(name, d, wanted, came);
-    closed(d, written);
+    let written = met(state, wanted, answer.bytes());
+    state.closed(written);
 }
 
-// A line that needs a session.
-fn session_needed(name: &[u8], d: &mut [usize; STATE]) {
-    if d[BROKEN] == 0 {
-        mistake(name, d, b"`sheet`, its lines and `session` first");
+// A line that would need a session.
+fn session_needed(state: &mut State<'_>) {
+    if !state.broken {
+        state.mistake(b"`sheet`, its lines and `session` first");
     }
 }
 
-fn other_line(name: &[u8], d: &mut [usize; STATE]) {
-    mistake(
-        name,
-        d,
+fn other_line(state: &mut State<'_>) {
+    state.mistake(
         b"`fire K`, `undo last`, `undo S`, `hex BYTES`, `block`, `hand in`, `where`, `couplings`, `live`, `moved S`, `step of S`, `tally`, `why`, `page N`, `row N I`, `lamp S`, `lamps`, `movers`, `spread S`, `listing`, `way back part P at X ..`, `with AT BYTE`, `cut LENGTH`, `expect ANSWER`, `sheet` or `session`",
     );
 }
 
-// A line of a session that has begun, or would need one. It ends at a position of the text.
-fn in_session(name: &[u8], to: usize, form: u8, d: &mut [usize; STATE]) -> u8 {
-    if d[STARTED] == 0 {
-        session_needed(name, d);
-        return NOTHING;
+// A line of a session that has begun.
+fn in_session(line: Line<'_>, state: &mut State<'_>) -> Option<Left> {
+    match line.form {
+        Form::Fire | Form::UndoLast | Form::Undo | Form::Hex => return Some(Left::Command),
+        Form::Block => begin_block(state, line.to),
+        Form::HandIn => state.mistake(b"`block` and commands before `hand in`"),
+        Form::Other => other_line(state),
+        Form::Alter => return Some(Left::Change),
+        _ => return Some(Left::Ask),
     }
-    if is_command(form) {
-        return COMMAND;
-    }
-    if form == BLOCK {
-        begin_block(d, to);
-        return NOTHING;
-    }
-    if form == HAND_IN {
-        mistake(name, d, b"`block` and commands before `hand in`");
-        return NOTHING;
-    }
-    if form == OTHER {
-        other_line(name, d);
-        return NOTHING;
-    }
-    if form == ALTER { CHANGE } else { ASK }
+    None
 }
 
-// A line in a block. One that is none of a block is left out of it.
-fn in_block(name: &[u8], line: &[u8], form: u8, d: &mut [usize; STATE]) -> u8 {
-    if is_command(form) {
-        pass_order(name, line, form, d);
-        return NOTHING;
+// A line in a block that begins at a position. One that is none of a block is left out of it.
+fn in_block(line: Line<'_>, from: usize, state: &mut State<'_>) -> Option<Left> {
+    if is_command(line.form) {
+        pass_order(line.bytes(), line.form, state);
+        return None;
     }
-    if form == HAND_IN {
-        return HAND;
+    match line.form {
+        Form::HandIn => return Some(Left::HandIn(from)),
+        Form::Blank => {}
+        _ => state.mistake(b"`fire K`, `undo last`, `undo S`, `hex BYTES` or `hand in`"),
     }
-    if form != BLANK {
-        mistake(
-            name,
-            d,
-            b"`fire K`, `undo last`, `undo S`, `hex BYTES` or `hand in`",
-        );
-    }
-    NOTHING
+    None
 }
 
 // A line that is none of a block's, and neither blank nor one of a sheet.
 fn out_of_block(
-    name: &[u8],
-    text: &[u8],
-    at: usize,
-    to: usize,
-    form: u8,
-    d: &mut [usize; STATE],
+    line: Line<'_>,
+    state: &mut State<'_>,
     sheet: &mut [u8],
-    answer: &[u8],
-) -> u8
+    answer: &Text,
+) -> Option<Left>
     requires { 65536 ≤ length sheet.old }
 {
-    if form == EXPECT {
-        expect_line(name, between(text, at, to), d, answer);
-        return NOTHING;
+    if line.form == Form::Expect {
+        expect_line(line.bytes(), state, answer);
+        return None;
     }
-    tell(name, d, sheet, answer);
-    if form == SHEET {
-        begin_sheet(d, to);
-        return NOTHING;
+    state.tell(sheet, answer);
+    match line.form {
+        Form::Sheet => {
+            begin_sheet(state, line.to);
+            None
+        }
+        Form::Session => session_line(line, state, sheet),
+        _ if state.started => in_session(line, state),
+        _ => {
+            session_needed(state);
+            None
+        }
     }
-    if form == SESSION {
-        return session_line(name, text, at, d, sheet);
-    }
-    in_session(name, to, form, d)
 }
 
-// Whether a line is passed: a blank one, and in a sheet all but `sheet` and `session`.
-fn is_passed(form: u8, reading: usize) -> bool {
-    if (form == SHEET) | (form == SESSION) {
-        return false;
-    }
-    (form == BLANK) | (reading != 0)
-}
-
-// The next line, between two positions of the script. `sheet` and `session` end a block.
+// The next line. `sheet` and `session` end a block; in a sheet all other lines are passed.
 pub fn enter_line(
-    name: &[u8],
-    text: &[u8],
-    at: usize,
-    to: usize,
-    form: u8,
-    d: &mut [usize; STATE],
+    line: Line<'_>,
+    state: &mut State<'_>,
     sheet: &mut [u8],
-    answer: &[u8],
-) -> u8
+    answer: &Text,
+) -> Option<Left>
     requires { 65536 ≤ length sheet.old }
 {
-    d[LINE] = one_more(d[LINE]);
-    if (form == SHEET) | (form == SESSION) {
-        give_up(name, d);
+    state.line = state.line.saturating_add(1);
+    let begins = line.form == Form::Sheet || line.form == Form::Session;
+    if begins {
+        give_up(state);
     }
-    if d[IN_BLOCK] != 0 {
-        return in_block(name, between(text, at, to), form, d);
+    if let Some(from) = state.block {
+        return in_block(line, from, state);
     }
-    if is_passed(form, d[READING]) {
-        return NOTHING;
+    if !begins && (line.form == Form::Blank || state.reading) {
+        return None;
     }
-    out_of_block(name, text, at, to, form, d, sheet, answer)
+    out_of_block(line, state, sheet, answer)
 }

@@ -1,63 +1,64 @@
 // Commands of a script as bytes: kind and number, or what is given in hexadecimal (document 01, commands, record, tally).
 // A call looks at the first three bytes.
-use crate::form::{UNDO, form_of, is_command, number};
-use crate::sheets::{hex_line, line_end};
-use wording::part::{between, front};
-use wording::put::put_text;
+use crate::form::{Form, form_of, number};
+use crate::hex::put_hex;
+use wording::part::front;
+use wording::put::Text;
 
-// At most four bytes of a command, and in the last entry how many there are, or UNREAD.
-pub const ROOM: usize = 5;
-
-pub const COUNT: usize = 4;
-
-pub const UNREAD: u8 = 5;
-
-// Bytes in hexadecimal.
-fn spelled(line: &[u8]) -> [u8; ROOM] {
-    let mut room = [0u8; ROOM];
-    let t = hex_line(line, &mut room, 0);
-    room[COUNT] = if t.fine & (t.n < 5) {
-        (t.n % 256) as u8
-    } else {
-        UNREAD
-    };
-    room
+// The bytes of a command, at most four.
+#[derive(Clone, Copy)]
+pub struct Order {
+    bytes: [u8; 4],
+    len: usize,
 }
 
-// Kind and number. The forms of kinds 1 to 3 are 5 to 7.
-pub fn command_of(form: u8, line: &[u8]) -> [u8; ROOM] {
-    if UNDO < form {
-        return spelled(line);
+impl Order {
+    pub fn bytes(&self) -> &[u8] {
+        front(&self.bytes, self.len)
     }
-    let n = number(line, 0);
-    [form % 4, (n % 256) as u8, (n / 256) as u8, 0, 3]
 }
 
-// A command's bytes behind what is there; nothing of any other line, or of one that cannot be read.
-fn put_order(line: &[u8], out: &mut [u8], n: usize) -> usize {
-    let form = form_of(line);
-    if !is_command(form) {
-        return n;
+// Bytes in hexadecimal, where they are at most four.
+fn spelled(line: &[u8]) -> Option<Order> {
+    let mut room = [0; 5];
+    let mut out = Text::new(&mut room);
+    put_hex(line, &mut out)?;
+    let len = out.len();
+    if 4 < len {
+        return None;
     }
-    let bytes = command_of(form, line);
-    let length = bytes[COUNT];
-    if length == UNREAD {
-        return n;
-    }
-    put_text(out, n, front(&bytes, length as usize))
+    let [a, b, c, d, _] = room;
+    Some(Order {
+        bytes: [a, b, c, d],
+        len,
+    })
 }
 
-// The commands of all lines.
-pub fn put_orders(text: &[u8], out: &mut [u8], n: usize) -> usize {
-    let mut end = n;
-    let mut at = 0;
-    while at < text.len() {
-        let to = line_end(text, at);
-        end = put_order(between(text, at, to), out, end);
-        if text.len() <= to {
-            return end;
+// A kind and a number.
+fn numbered(kind: u8, n: u16) -> Order {
+    let [low, high] = n.to_le_bytes();
+    Order {
+        bytes: [kind, low, high, 0],
+        len: 3,
+    }
+}
+
+// The command that a line of that form says; none where its bytes cannot be read, or it says none.
+pub fn command_of(form: Form, line: &[u8]) -> Option<Order> {
+    match form {
+        Form::Fire => Some(numbered(1, number(line, 0))),
+        Form::UndoLast => Some(numbered(2, 0)),
+        Form::Undo => Some(numbered(3, number(line, 0))),
+        Form::Hex => spelled(line),
+        _ => None,
+    }
+}
+
+// The commands of all lines, joined; nothing of any other line, or of a command that cannot be read.
+pub fn put_orders(text: &[u8], out: &mut Text) {
+    for line in text.split(|c| *c == b'\n') {
+        if let Some(order) = command_of(form_of(line), line) {
+            out.put_text(order.bytes());
         }
-        at = to + 1;
     }
-    end
 }

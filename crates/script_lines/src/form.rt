@@ -1,69 +1,82 @@
 // The lines of a script by their forms. A form is the line with its greatest numbers (crate forms).
 // A line that has none of these is one of a sheet, or a mistake.
-use crate::sheets::line_end;
 use forms::{has_form, nth_number};
-use wording::part::between;
 
-// The forms by their places in the list of `whole_form`. A blank line; what begins a sheet, a session, a block; `hand in`.
-pub const BLANK: u8 = 0;
+// What a line is, by its form.
+#[derive(Clone, Copy, PartialEq, Eq)]
+pub enum Form {
+    Blank,
+    // What begins a sheet, a session, a block; what ends a block.
+    Sheet,
+    Session,
+    Block,
+    HandIn,
+    // Commands; `hex` gives one by its bytes, or a line of a sheet.
+    Fire,
+    UndoLast,
+    Undo,
+    Hex,
+    // Questions about the sheet with so many bytes changed, and cut short with so many changed.
+    With(u8),
+    Cut(u8),
+    // About the tally; why a command was refused; about the record.
+    Tally,
+    Why,
+    Where,
+    Couplings,
+    Live,
+    Moved,
+    StepOf,
+    Movers,
+    // By the customer's calls: what can come off, how far a firing spreads, the listing, a page and a row of one, the way back.
+    Lamp,
+    Lamps,
+    Spread,
+    Listing,
+    Page,
+    Row,
+    WayBack,
+    Expect,
+    // For tests.
+    Alter,
+    Each,
+    Other,
+}
 
-pub const SHEET: u8 = 1;
-
-pub const SESSION: u8 = 2;
-
-pub const BLOCK: u8 = 3;
-
-pub const HAND_IN: u8 = 4;
-
-// Commands of kinds 1 to 3: `fire`, `undo last` and `undo`.
-const FIRE: u8 = 5;
-
-pub const UNDO: u8 = 7;
-
-// Questions about the sheet with one to four bytes changed, 8 to 11, and cut short, 12 and 13; about the tally; why a command was refused.
-pub const CUT: u8 = 12;
-
-pub const TALLY: u8 = 14;
-
-pub const WHY: u8 = 15;
-
-// Questions about the record; 20 is `step of`.
-pub const WHERE: u8 = 16;
-
-pub const COUPLINGS: u8 = 17;
-
-pub const LIVE: u8 = 18;
-
-pub const MOVED: u8 = 19;
-
-pub const MOVERS: u8 = 21;
-
-// Questions by the customer's calls: what can come off, how far a firing spreads, the listing, a page; 27 is a row of one.
-pub const LAMP: u8 = 22;
-
-pub const LAMPS: u8 = 23;
-
-pub const SPREAD: u8 = 24;
-
-pub const LISTING: u8 = 25;
-
-pub const PAGE: u8 = 26;
-
-// Lines of which the beginning alone is a form, and all others. `alter` and `each` have forms of their own.
-pub const EXPECT: u8 = 28;
-
-pub const HEX: u8 = 29;
-
-pub const WAY_BACK: u8 = 30;
-
-pub const ALTER: u8 = 31;
-
-pub const EACH: u8 = 32;
-
-pub const OTHER: u8 = 33;
-
-// The place of a line that has no form of a list.
-pub const NONE: usize = 64;
+// The forms of whole lines.
+const FORMS: [(&[u8], Form); 28] = [
+    (b"", Form::Blank),
+    (b"sheet", Form::Sheet),
+    (b"session", Form::Session),
+    (b"block", Form::Block),
+    (b"hand in", Form::HandIn),
+    (b"fire 65535", Form::Fire),
+    (b"undo last", Form::UndoLast),
+    (b"undo 65535", Form::Undo),
+    (b"with 65535 255", Form::With(1)),
+    (b"with 65535 255 65535 255", Form::With(2)),
+    (b"with 65535 255 65535 255 65535 255", Form::With(3)),
+    (
+        b"with 65535 255 65535 255 65535 255 65535 255",
+        Form::With(4),
+    ),
+    (b"cut 65535", Form::Cut(0)),
+    (b"cut 65535 65535 255", Form::Cut(1)),
+    (b"tally", Form::Tally),
+    (b"why", Form::Why),
+    (b"where", Form::Where),
+    (b"couplings", Form::Couplings),
+    (b"live", Form::Live),
+    (b"moved 65535", Form::Moved),
+    (b"step of 65535", Form::StepOf),
+    (b"movers", Form::Movers),
+    (b"lamp 65535", Form::Lamp),
+    (b"lamps", Form::Lamps),
+    (b"spread 65535", Form::Spread),
+    (b"listing", Form::Listing),
+    (b"page 65535", Form::Page),
+    (b"row 65535 51", Form::Row),
+];
 
 // No line of a script has more items than this, those of `expect` and `hex` aside.
 const ITEMS: usize = 12;
@@ -73,87 +86,46 @@ pub fn number(line: &[u8], k: usize) -> u16 {
     (nth_number(line, 0, k, ITEMS) % 65536) as u16
 }
 
-// Which of the forms in a list a line has, from 0. A line is a form.
-pub fn place_in(line: &[u8], list: &[u8]) -> usize {
-    let mut k = 0;
-    let mut at = 0;
-    while at < list.len() {
-        let to = line_end(list, at);
-        if has_form(line, 0, between(list, at, to), ITEMS) {
-            return k;
+// Number k of a line, which its form has bounded by 255.
+pub fn byte(line: &[u8], k: usize) -> u8 {
+    (nth_number(line, 0, k, ITEMS) % 256) as u8
+}
+
+// What the first form of a list that a line has stands for.
+pub fn thing_in<T: Copy>(line: &[u8], list: &[(&[u8], T)]) -> Option<T> {
+    for (form, thing) in list {
+        if has_form(line, 0, form, ITEMS) {
+            return Some(*thing);
         }
-        if list.len() <= to {
-            return NONE;
-        }
-        at = to + 1;
-        k = k % 64 + 1;
     }
-    NONE
+    None
 }
 
-fn whole_form(line: &[u8]) -> usize {
-    place_in(
-        line,
-        b"\n\
-          sheet\n\
-          session\n\
-          block\n\
-          hand in\n\
-          fire 65535\n\
-          undo last\n\
-          undo 65535\n\
-          with 65535 255\n\
-          with 65535 255 65535 255\n\
-          with 65535 255 65535 255 65535 255\n\
-          with 65535 255 65535 255 65535 255 65535 255\n\
-          cut 65535\n\
-          cut 65535 65535 255\n\
-          tally\n\
-          why\n\
-          where\n\
-          couplings\n\
-          live\n\
-          moved 65535\n\
-          step of 65535\n\
-          movers\n\
-          lamp 65535\n\
-          lamps\n\
-          spread 65535\n\
-          listing\n\
-          page 65535\n\
-          row 65535 51",
-    )
-}
-
-fn beginning(line: &[u8]) -> u8 {
+// A line of which the beginning alone is a form.
+fn beginning(line: &[u8]) -> Form {
     if has_form(line, 0, b"expect", 1) {
-        return EXPECT;
-    }
-    if has_form(line, 0, b"hex", 1) {
-        return HEX;
-    }
-    if has_form(line, 0, b"way back", 2) {
-        return WAY_BACK;
-    }
-    if has_form(line, 0, b"alter", 1) {
-        return ALTER;
-    }
-    if has_form(line, 0, b"each", 1) {
-        EACH
+        Form::Expect
+    } else if has_form(line, 0, b"hex", 1) {
+        Form::Hex
+    } else if has_form(line, 0, b"way back", 2) {
+        Form::WayBack
+    } else if has_form(line, 0, b"alter", 1) {
+        Form::Alter
+    } else if has_form(line, 0, b"each", 1) {
+        Form::Each
     } else {
-        OTHER
+        Form::Other
     }
 }
 
-pub fn form_of(line: &[u8]) -> u8 {
-    let k = whole_form(line);
-    if k < NONE {
-        return (k % 256) as u8;
+pub fn form_of(line: &[u8]) -> Form {
+    match thing_in(line, &FORMS) {
+        Some(form) => form,
+        None => beginning(line),
     }
-    beginning(line)
 }
 
 // Whether a form is a command's.
-pub fn is_command(form: u8) -> bool {
-    (form == HEX) | (FIRE <= form) & (form <= UNDO)
+pub fn is_command(form: Form) -> bool {
+    matches!(form, Form::Fire | Form::UndoLast | Form::Undo | Form::Hex)
 }

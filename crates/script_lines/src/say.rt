@@ -1,28 +1,27 @@
 // What the desk prints: a line each, with the file's name and the line of the script in front.
 // Each answers whether it was written.
+use crate::sheets::Slip;
 use io::{print_decimal, write_all};
-use wording::part::nth_line;
 
-// A line of up to four pieces, behind the file's name and the line of the script.
-fn print_line(fd: i32, name: &[u8], line: usize, a: &[u8], b: &[u8], c: &[u8], d: &[u8]) -> bool {
+// A line of some pieces, behind the file's name and the line of the script.
+fn print_line(fd: i32, name: &[u8], line: usize, pieces: &[&[u8]]) -> bool {
     let mut whole = write_all(fd, name);
-    whole = write_all(fd, b":") & whole;
-    whole = print_decimal(fd, line as u64) & whole;
-    whole = write_all(fd, b": ") & whole;
-    whole = write_all(fd, a) & whole;
-    whole = write_all(fd, b) & whole;
-    whole = write_all(fd, c) & whole;
-    whole = write_all(fd, d) & whole;
+    whole &= write_all(fd, b":");
+    whole &= print_decimal(fd, line as u64);
+    whole &= write_all(fd, b": ");
+    for piece in pieces {
+        whole &= write_all(fd, piece);
+    }
     write_all(fd, b"\n") & whole
 }
 
 pub fn print_answer(name: &[u8], line: usize, text: &[u8]) -> bool {
-    print_line(1, name, line, text, b"", b"", b"")
+    print_line(1, name, line, &[text])
 }
 
 // An answer and the reason behind it.
 pub fn print_refused(name: &[u8], line: usize, text: &[u8], reason: &[u8]) -> bool {
-    print_line(1, name, line, text, b": ", reason, b"")
+    print_line(1, name, line, &[text, b": ", reason])
 }
 
 pub fn print_difference(name: &[u8], line: usize, wanted: &[u8], came: &[u8]) -> bool {
@@ -30,47 +29,22 @@ pub fn print_difference(name: &[u8], line: usize, wanted: &[u8], came: &[u8]) ->
         1,
         name,
         line,
-        b"differs: expected",
-        wanted,
-        b", came ",
-        came,
+        &[b"differs: expected", wanted, b", came ", came],
     )
 }
 
 // What was expected in place of a line.
 pub fn print_mistake(fd: i32, name: &[u8], line: usize, words: &[u8]) -> bool {
-    print_line(
-        fd,
-        name,
-        line,
-        b"not understood: expected ",
-        words,
-        b"",
-        b"",
-    )
+    print_line(fd, name, line, &[b"not understood: expected ", words])
 }
 
-// The same for a sheet's line, by its line in this list (sheets).
-pub fn print_slip(fd: i32, name: &[u8], line: usize, slip: u8) -> bool {
-    let words = nth_line(
-        b"`places N`, `part P at PLACE`, `coupled P-Q`, `step K`, `move P from PLACE to PLACE`, `before P-Q` or `after P-Q`, numbers to 255\n\
-          `places` once, before the first `step`\n\
-          the parts in their turn, from 0, before the first `step`\n\
-          `coupled` before the first `step`: `after` says what a step couples\n\
-          the steps in their turn, from 0\n\
-          a `step` before this line\n\
-          `hex` and two digits 0 to 9, a to f, for each byte\n\
-          a sheet that the format can hold: up to 255 parts, steps, and lines of a kind in a step, 65535 bytes\n\
-          `sheet` and its lines",
-        slip as usize,
-    );
-    print_mistake(fd, name, line, words)
+// The same for a sheet's line.
+pub fn print_slip(fd: i32, name: &[u8], line: usize, slip: Slip) -> bool {
+    print_mistake(fd, name, line, slip.words().as_bytes())
 }
 
 fn print_count(word: &[u8], n: usize) -> bool {
-    let a = write_all(1, word);
-    let b = print_decimal(1, n as u64);
-    a & b
+    write_all(1, word) & print_decimal(1, n as u64)
 }
 
 // The last line of a file: how many answers, expectations, differences, and lines that were not understood.
@@ -81,11 +55,10 @@ pub fn print_total(
     differences: usize,
     mistakes: usize,
 ) -> bool {
-    let a = write_all(1, name);
-    let b = print_count(b": answers ", answers);
-    let c = print_count(b", expectations ", expected);
-    let d = print_count(b", differences ", differences);
-    let e = print_count(b", mistakes ", mistakes);
-    let f = write_all(1, b"\n");
-    a & b & c & d & e & f
+    let mut whole = write_all(1, name);
+    whole &= print_count(b": answers ", answers);
+    whole &= print_count(b", expectations ", expected);
+    whole &= print_count(b", differences ", differences);
+    whole &= print_count(b", mistakes ", mistakes);
+    write_all(1, b"\n") & whole
 }

@@ -1,57 +1,51 @@
 // The sheet that a stretch of a script says: in words (crate sheet_draft), or its bytes in hexadecimal.
-// A mistake is a line, counted from 1 in the stretch, and what was expected there.
 ghost use Rattle.std.specs.Prelude.{◌≤◌, length};
 
-use crate::form::{BLANK, HEX, form_of};
-use crate::hex::{Taken, put_hex};
-use lexing::{Class, end_of, next};
+use crate::form::{Form, form_of};
+use crate::hex::put_hex;
+use lexing::{Class, end_of};
 use sheet_draft::{Made, read_sheet};
 use sheet_text::Line;
+use wording::put::Text;
 
-// What was expected, by its line in the list of `print_slip`.
-const SHEET_LINE: u8 = 0;
-
-const PLACES_ONCE: u8 = 1;
-
-const PART_IN_TURN: u8 = 2;
-
-const COUPLED_FIRST: u8 = 3;
-
-const STEP_IN_TURN: u8 = 4;
-
-const BEHIND_STEP: u8 = 5;
-
-const HEX_LINE: u8 = 6;
-
-const SMALLER: u8 = 7;
-
-pub const NO_SHEET: u8 = 8;
-
-// A sheet of n bytes in the buffer; or what was expected, and at which line: 0 where it is about the whole.
+// What was expected in place of a line of a sheet.
 #[derive(Clone, Copy)]
-pub struct Given {
-    pub fine: bool,
-    pub slip: u8,
+pub enum Slip {
+    SheetLine,
+    PlacesOnce,
+    PartInTurn,
+    CoupledFirst,
+    StepInTurn,
+    BehindStep,
+    HexLine,
+    Smaller,
+    NoSheet,
+}
+
+impl Slip {
+    pub fn words(self) -> &'static str {
+        match self {
+            Slip::SheetLine =>
+                "`places N`, `part P at PLACE`, `coupled P-Q`, `step K`, `move P from PLACE to PLACE`, `before P-Q` or `after P-Q`, numbers to 255",
+            Slip::PlacesOnce => "`places` once, before the first `step`",
+            Slip::PartInTurn => "the parts in their turn, from 0, before the first `step`",
+            Slip::CoupledFirst =>
+                "`coupled` before the first `step`: `after` says what a step couples",
+            Slip::StepInTurn => "the steps in their turn, from 0",
+            Slip::BehindStep => "a `step` before this line",
+            Slip::HexLine => "`hex` and two digits 0 to 9, a to f, for each byte",
+            Slip::Smaller =>
+                "a sheet that the format can hold: up to 255 parts, steps, and lines of a kind in a step, 65535 bytes",
+            Slip::NoSheet => "`sheet` and its lines",
+        }
+    }
+}
+
+// What was expected, and at which line, counted from 1 in the stretch: 0 where it is about the whole.
+#[derive(Clone, Copy)]
+pub struct Mistake {
+    pub slip: Slip,
     pub line: usize,
-    pub n: usize,
-}
-
-pub fn sheet_of(n: usize) -> Given {
-    Given {
-        fine: true,
-        slip: SHEET_LINE,
-        line: 0,
-        n: n,
-    }
-}
-
-pub fn mistaken(slip: u8, line: usize) -> Given {
-    Given {
-        fine: false,
-        slip: slip,
-        line: line,
-        n: 0,
-    }
 }
 
 // Where the line ends that a position of a text is in.
@@ -62,109 +56,83 @@ pub fn line_end(text: &[u8], at: usize) -> usize
     end_of(text, at, Class::InLine)
 }
 
-// One more; the greatest number stays.
-pub fn one_more(n: usize) -> usize {
-    if n < usize::MAX { n + 1 } else { n }
-}
-
-// The sum; the first number where it has none.
-pub fn plus(a: usize, b: usize) -> usize {
-    if b <= usize::MAX - a { a + b } else { a }
-}
-
 // What a line of a sheet lacks where it stands.
-fn slip_of(l: Line) -> u8 {
+fn slip_of(l: Line) -> Slip {
     match l {
-        Line::Blank => SHEET_LINE,
-        Line::Places(n) => PLACES_ONCE,
-        Line::Part(p, x) => PART_IN_TURN,
-        Line::Coupled(p, q) => COUPLED_FIRST,
-        Line::Step(k) => STEP_IN_TURN,
-        Line::Move(p, i, o) => BEHIND_STEP,
-        Line::Before(p, q) => BEHIND_STEP,
-        Line::After(p, q) => BEHIND_STEP,
-        Line::Wrong => SHEET_LINE,
+        Line::Blank | Line::Wrong => Slip::SheetLine,
+        Line::Places(_) => Slip::PlacesOnce,
+        Line::Part(_, _) => Slip::PartInTurn,
+        Line::Coupled(_, _) => Slip::CoupledFirst,
+        Line::Step(_) => Slip::StepInTurn,
+        Line::Move(_, _, _) | Line::Before(_, _) | Line::After(_, _) => Slip::BehindStep,
     }
 }
 
 // A sheet in words. The callers, here and below, lend room for any sheet that the format can hold.
-fn worded(text: &[u8], buf: &mut [u8]) -> Given
+fn worded(text: &[u8], buf: &mut [u8]) -> Result<usize, Mistake>
     requires { 65536 ≤ length buf.old }
 {
-    let made = read_sheet(text, buf);
-    match made {
-        Made::Sheet(n) => sheet_of(n),
-        Made::Mistake(k, l) => mistaken(slip_of(l), k),
-        Made::TooLarge => mistaken(SMALLER, 0),
+    match read_sheet(text, buf) {
+        Made::Sheet(n) => Ok(n),
+        Made::Mistake(line, l) => Err(Mistake {
+            slip: slip_of(l),
+            line,
+        }),
+        Made::TooLarge => Err(Mistake {
+            slip: Slip::Smaller,
+            line: 0,
+        }),
     }
 }
 
 // Whether the first line that is not blank begins with `hex`.
 fn is_hex(text: &[u8]) -> bool {
-    let mut at = 0;
-    while at < text.len() {
-        let to = line_end(text, at);
-        let form = form_of(&text[at..to]);
-        if form != BLANK {
-            return form == HEX;
+    for line in text.split(|c| *c == b'\n') {
+        let form = form_of(line);
+        if form != Form::Blank {
+            return form == Form::Hex;
         }
-        if text.len() <= to {
-            return false;
-        }
-        at = to + 1;
     }
     false
 }
 
-// The bytes of a line that begins with `hex`.
-pub fn hex_line(line: &[u8], buf: &mut [u8], n: usize) -> Taken {
-    let word = next(line, 0);
-    put_hex(line, word.to, buf, n)
-}
-
 // A line of a sheet's bytes: `hex` and bytes, or blank.
-fn bytes_line(line: &[u8], buf: &mut [u8], n: usize) -> Taken {
-    let form = form_of(line);
-    if form == HEX {
-        return hex_line(line, buf, n);
-    }
-    Taken {
-        fine: form == BLANK,
-        n: n,
+fn put_line(line: &[u8], out: &mut Text) -> Option<()> {
+    match form_of(line) {
+        Form::Blank => Some(()),
+        Form::Hex => put_hex(line, out),
+        _ => None,
     }
 }
 
-// A sheet's bytes, line by line.
-fn spelled(text: &[u8], buf: &mut [u8]) -> Given {
-    let mut at = 0;
-    let mut k = 1;
-    let mut n = 0;
-    while at < text.len() {
-        let to = line_end(text, at);
-        let t = bytes_line(&text[at..to], buf, n);
-        if !t.fine {
-            return mistaken(HEX_LINE, k);
+// A sheet's bytes, line by line. A buffer that is full may have lost bytes.
+fn spelled(text: &[u8], buf: &mut [u8]) -> Result<usize, Mistake> {
+    let mut out = Text::new(buf);
+    for (k, line) in text.split(|c| *c == b'\n').enumerate() {
+        if put_line(line, &mut out).is_none() {
+            return Err(Mistake {
+                slip: Slip::HexLine,
+                line: k.saturating_add(1),
+            });
         }
-        n = t.n;
-        if text.len() <= to {
-            return sheet_of(n);
-        }
-        at = to + 1;
-        k = one_more(k);
     }
-    sheet_of(n)
+    let n = out.len();
+    if 65536 <= n {
+        return Err(Mistake {
+            slip: Slip::Smaller,
+            line: 0,
+        });
+    }
+    Ok(n)
 }
 
-// The sheet that a stretch says. A buffer that is full may have lost bytes.
-pub fn sheet_in(text: &[u8], buf: &mut [u8]) -> Given
+// The sheet that a stretch says, so many bytes of the buffer.
+pub fn sheet_in(text: &[u8], buf: &mut [u8]) -> Result<usize, Mistake>
     requires { 65536 ≤ length buf.old }
 {
-    if !is_hex(text) {
-        return worded(text, buf);
+    if is_hex(text) {
+        spelled(text, buf)
+    } else {
+        worded(text, buf)
     }
-    let g = spelled(text, buf);
-    if 65536 <= g.n {
-        return mistaken(SMALLER, 0);
-    }
-    g
 }

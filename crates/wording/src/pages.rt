@@ -1,62 +1,54 @@
 // A ruled page of a record's live firings, and a row of it, as answers (document 02, T-01). The page is the customer's call.
 use crate::part::{between, front};
-use crate::put::{put, put_count, put_refusal, put_text};
-use live_list::LiveFirings;
+use crate::put::Text;
+use net::Verdict;
 use page::{lendable, page_of};
 use questions::live_firings;
 use session::Record;
 
 const PAGE: usize = 2091;
 
-// A page of a list. Answers the number that it is refused by; 0 where it is printed.
-fn page_from(l: LiveFirings, number: u16, buf: &mut [u8]) -> u8 {
-    let listed = l.answer;
-    let list = l.firings;
-    let refusal = listed.number();
-    if refusal != 0 {
-        return refusal;
+// A page ends with a newline, and each of its lines has 41 bytes with its own.
+const LINE: usize = 41;
+
+fn accepted(answer: Verdict) -> Result<(), u8> {
+    match answer {
+        Verdict::Accepted => Ok(()),
+        Verdict::Refused(n) => Err(n),
     }
-    let a = page_of(lendable(list), l.count, number, buf);
-    a.number()
 }
 
-// The page of a record's live firings.
-fn page_into(r: Record, sheet: &[u8], number: u16, buf: &mut [u8]) -> u8 {
+// The page of the record's live firings; or the number that it is refused by.
+fn page_into(r: Record, sheet: &[u8], number: u16, text: &mut [u8]) -> Result<(), u8> {
     let l = live_firings(r, sheet);
-    page_from(l, number, buf)
-}
-
-fn put_lines(buf: &mut [u8], refusal: u8, number: u16, text: &[u8]) -> usize {
-    if refusal != 0 {
-        return put_refusal(buf, refusal);
-    }
-    let a = put_count(buf, 0, b"page", number as usize);
-    let b = put(buf, a, b'\n');
-    put_text(buf, b, front(text, 2090))
+    accepted(l.answer)?;
+    accepted(page_of(lendable(l.firings), l.count, number, text))
 }
 
 // `page N` and the page's lines, without the last newline; or `refused N`.
-pub fn put_page(buf: &mut [u8], r: Record, sheet: &[u8], number: u16) -> usize {
-    let mut text = [0u8; PAGE];
-    let refusal = page_into(r, sheet, number, &mut text);
-    put_lines(buf, refusal, number, &text)
-}
-
-fn put_line(buf: &mut [u8], refusal: u8, i: usize, text: &[u8]) -> usize {
-    if refusal != 0 {
-        return put_refusal(buf, refusal);
+pub fn put_page(out: &mut Text, r: Record, sheet: &[u8], number: u16) {
+    let mut text = [0; PAGE];
+    match page_into(r, sheet, number, &mut text) {
+        Ok(()) => {
+            out.put_count("page", number);
+            out.put(b'\n');
+            out.put_text(front(&text, PAGE - 1));
+        }
+        Err(refusal) => out.put_refusal(refusal),
     }
-    let from = 41 * (i % 65536);
-    let a = put_text(buf, 0, b"row ");
-    if from < 41 {
-        return a;
-    }
-    put_text(buf, a, between(text, from - 41, from - 1))
 }
 
 // `row` and what line i of the page has, from 1; or `refused N`.
-pub fn put_row(buf: &mut [u8], r: Record, sheet: &[u8], number: u16, i: u16) -> usize {
-    let mut text = [0u8; PAGE];
-    let refusal = page_into(r, sheet, number, &mut text);
-    put_line(buf, refusal, i as usize, &text)
+pub fn put_row(out: &mut Text, r: Record, sheet: &[u8], number: u16, i: u16) {
+    let mut text = [0; PAGE];
+    match page_into(r, sheet, number, &mut text) {
+        Ok(()) => {
+            let to = LINE * usize::from(i);
+            out.put_text(b"row ");
+            if LINE <= to {
+                out.put_text(between(&text, to - LINE, to - 1));
+            }
+        }
+        Err(refusal) => out.put_refusal(refusal),
+    }
 }

@@ -1,54 +1,60 @@
 // Why a command was refused, in words (document 01, the turned-away list, 10 to 21). What a reason names was found by the
-// crate why; `#` stands for its numbers, in their order.
-use crate::put::{Said, put_said, say};
+// crate why.
+use crate::put::Text;
+use std::fmt;
+use std::fmt::{Display, Write};
 use why::Reason;
 
-// A reason as a line of the table below, with its numbers.
-fn reason_said(r: Reason) -> Said {
-    match r {
-        Reason::Nothing => say(0, 0, 0, 0, 0),
-        Reason::Sheet => say(0, 0, 0, 0, 0),
-        Reason::Record => say(1, 0, 0, 0, 0),
-        Reason::Short => say(2, 0, 0, 0, 0),
-        Reason::Unreadable => say(3, 0, 0, 0, 0),
-        Reason::Steps(n) => say(4, n as usize, 0, 0, 0),
-        Reason::Away(e, place) => say(5, e.base as usize, place as usize, e.from as usize, 0),
-        Reason::Absent(b) => say(6, b.lo as usize, b.hi as usize, 0, 0),
-        Reason::Present(b) => say(7, b.lo as usize, b.hi as usize, 0, 0),
-        Reason::Torn(e, d) => {
-            say(
-                8,
-                e.base as usize,
-                d.base as usize,
-                e.to as usize,
-                d.to as usize,
-            )
+// A reason as a phrase.
+#[derive(Clone, Copy)]
+struct Words(Reason);
+
+impl Display for Words {
+    fn fmt<W: Write>(&self, f: &mut fmt::Formatter<W>) -> fmt::Result {
+        match self.0 {
+            Reason::Nothing | Reason::Sheet => f.write_str("the last command was not refused"),
+            Reason::Record => f.write_str("the record is not sound for this sheet"),
+            Reason::Short => f.write_str("the command has fewer than 3 bytes"),
+            Reason::Unreadable => f.write_str("the kind is not 1 2 or 3 or kind 2 has a number"),
+            Reason::Steps(n) => write!(f, "the sheet has {n} steps from 0"),
+            Reason::Away(e, place) => {
+                let (part, from) = (e.base, e.from);
+                write!(
+                    f,
+                    "part {part} is at {place} and the step takes it from {from}"
+                )
+            }
+            Reason::Absent(b) => {
+                let (lo, hi) = (b.lo, b.hi);
+                write!(f, "coupling {lo}-{hi} is not there")
+            }
+            Reason::Present(b) => {
+                let (lo, hi) = (b.lo, b.hi);
+                write!(f, "coupling {lo}-{hi} is there already")
+            }
+            Reason::Torn(e, d) => {
+                let (a, b) = (e.base, d.base);
+                let (x, y) = (e.to, d.to);
+                write!(
+                    f,
+                    "parts {a} and {b} hang together and would go to {x} and {y}"
+                )
+            }
+            Reason::Full => f.write_str("256 firings are live"),
+            Reason::LastKey => f.write_str("the highest serial given is 65535"),
+            Reason::NoneLive => f.write_str("no firing is live"),
+            Reason::NotLive(k) => {
+                let serial = k.0;
+                write!(f, "firing {serial} is not live")
+            }
+            Reason::Later(k, part) => {
+                let serial = k.0;
+                write!(f, "firing {serial} came later and moved part {part} too")
+            }
         }
-        Reason::Full => say(9, 0, 0, 0, 0),
-        Reason::LastKey => say(10, 0, 0, 0, 0),
-        Reason::NoneLive => say(11, 0, 0, 0, 0),
-        Reason::NotLive(k) => say(12, k.0 as usize, 0, 0, 0),
-        Reason::Later(k, base) => say(13, k.0 as usize, base as usize, 0, 0),
     }
 }
 
-pub fn put_reason(buf: &mut [u8], r: Reason) -> usize {
-    put_said(
-        buf,
-        b"the last command was not refused\n\
-          the record is not sound for this sheet\n\
-          the command has fewer than 3 bytes\n\
-          the kind is not 1 2 or 3 or kind 2 has a number\n\
-          the sheet has # steps from 0\n\
-          part # is at # and the step takes it from #\n\
-          coupling #-# is not there\n\
-          coupling #-# is there already\n\
-          parts # and # hang together and would go to # and #\n\
-          256 firings are live\n\
-          the highest serial given is 65535\n\
-          no firing is live\n\
-          firing # is not live\n\
-          firing # came later and moved part # too",
-        reason_said(r),
-    )
+pub fn put_reason(out: &mut Text, r: Reason) {
+    out.say(Words(r));
 }

@@ -1,6 +1,6 @@
 // Why a sheet was refused, in words (document 01, the turned-away list, 1 to 9): the number's condition, and the pair, part,
 // coupling or step that it is about. Only what is printed: that a sheet is refused, and by which number, is the crate sheet's.
-use crate::put::{Said, put_said, say};
+use crate::put::Text;
 use format::{
     arcs_width, base_count, byte_at, entry, entry_count, pair_length, pair_offset, place_count,
     start_bond, start_bond_count, start_bonds, start_places, transition_bytes, transition_count,
@@ -8,235 +8,260 @@ use format::{
 };
 use net::{Bond, Entry, Transition};
 use sheet::transition_refusal;
+use std::fmt;
+use std::fmt::{Display, Write};
 
-// The first pair whose offset is not where the one before ends; how many pairs there are where none is.
+// What is wrong with a sheet.
 #[derive(Clone, Copy)]
-struct Seam {
-    pair: u16,
-    is: usize,
-    to_be: usize,
+enum Fault {
+    Size(usize),
+    Version(u8),
+    Counts { places: u8, parts: u8, steps: u8 },
+    PairsEnd { at: usize, size: usize },
+    Pair { k: u16, is: usize, to_be: usize },
+    LastPair { pairs: u16, is: usize, to_be: usize },
+    StartPlaces { places: usize, parts: u8 },
+    StartPlace { part: usize, place: u8, places: u8 },
+    OddCouplings(usize),
+    StartCoupling { i: u16, bond: Bond },
+    Width { step: u8, is: usize, to_be: usize },
+    Entries { step: u8, entries: u8 },
+    Stray { step: u8, entry: Entry },
+    Coupling { step: u8 },
 }
 
-fn first_seam(sheet: &[u8], n: u16, begin: usize) -> Seam {
+impl Display for Fault {
+    fn fmt<W: Write>(&self, f: &mut fmt::Formatter<W>) -> fmt::Result {
+        match *self {
+            Fault::Size(n) => write!(f, "the sheet has {n} bytes and is to have 4 to 32768"),
+            Fault::Version(n) => write!(f, "the version is {n} and is to be 1"),
+            Fault::Counts {
+                places,
+                parts,
+                steps,
+            } => write!(
+                f,
+                "places {places} parts {parts} steps {steps} and each is to be 1 to 64"
+            ),
+            Fault::PairsEnd { at, size } => {
+                write!(f, "the pairs end at byte {at} and the sheet at {size}")
+            }
+            Fault::Pair { k, is, to_be } => {
+                write!(f, "pair {k} has offset {is} and is to have {to_be}")
+            }
+            Fault::LastPair { pairs, is, to_be } => {
+                write!(
+                    f,
+                    "the last of {pairs} pairs does not end at byte {is} but at {to_be}"
+                )
+            }
+            Fault::StartPlaces { places, parts } => {
+                write!(f, "the start places are {places} and the parts {parts}")
+            }
+            Fault::StartPlace {
+                part,
+                place,
+                places,
+            } => write!(
+                f,
+                "part {part} starts at {place} and the places are {places}"
+            ),
+            Fault::OddCouplings(n) => {
+                write!(f, "the start couplings have {n} bytes and that is odd")
+            }
+            Fault::StartCoupling { i, bond } => {
+                let (lo, hi) = (bond.lo, bond.hi);
+                write!(f, "start coupling {i} {lo}-{hi} breaks its rule")
+            }
+            Fault::Width { step, is, to_be } => {
+                write!(f, "step {step} has {is} bytes and its counts give {to_be}")
+            }
+            Fault::Entries { step, entries } => {
+                write!(
+                    f,
+                    "step {step} has {entries} entries and is to have 1 to 64"
+                )
+            }
+            Fault::Stray { step, entry } => {
+                let (part, from, to) = (entry.base, entry.from, entry.to);
+                write!(f, "step {step} moves part {part} from {from} to {to} ")?;
+                f.write_str("and one of them is not there or the parts do not ascend")
+            }
+            Fault::Coupling { step } => {
+                write!(f, "step {step} has a coupling that breaks its rule")
+            }
+        }
+    }
+}
+
+// ---- the pairs, the start
+
+// The first of n pairs whose offset is not where the one before ends; the last one's end where each is.
+fn pair_fault(sheet: &[u8], n: u16, begin: usize) -> Fault {
     let mut to_be = begin;
-    let mut k: u16 = 0;
-    while k < n {
-        let offset = pair_offset(sheet, k);
-        if offset != to_be {
-            return Seam {
-                pair: k,
-                is: offset,
-                to_be: to_be,
-            };
+    for k in 0..n {
+        let is = pair_offset(sheet, k);
+        if is != to_be {
+            return Fault::Pair { k, is, to_be };
         }
-        to_be = offset + pair_length(sheet, k);
-        k += 1;
+        to_be = is + pair_length(sheet, k);
     }
-    Seam {
-        pair: n,
+    Fault::LastPair {
+        pairs: n,
         is: sheet.len(),
-        to_be: to_be,
+        to_be,
     }
 }
 
-fn say_pairs(sheet: &[u8]) -> Said {
-    let n = transition_count(sheet) as u16 + 2;
-    let begin = 4 + 4 * (n as usize);
+fn pairs_fault(sheet: &[u8]) -> Fault {
+    let n = u16::from(transition_count(sheet)) + 2;
+    let begin = 4 + 4 * usize::from(n);
     if sheet.len() < begin {
-        return say(3, begin, sheet.len(), 0, 0);
+        return Fault::PairsEnd {
+            at: begin,
+            size: sheet.len(),
+        };
     }
-    let s = first_seam(sheet, n, begin);
-    let pair = s.pair as usize;
-    if s.pair < n {
-        return say(4, pair, s.is, s.to_be, 0);
-    }
-    say(5, pair, s.is, s.to_be, 0)
+    pair_fault(sheet, n, begin)
 }
 
-// The first part whose start place is not there; how many there are where none is.
-fn first_misplaced(places: &[u8], n: u8) -> usize {
-    let mut p = 0;
-    while p < places.len() {
-        if n <= places[p] {
-            return p;
-        }
-        p += 1;
+// The first part whose start place is not there.
+fn start_places_fault(sheet: &[u8]) -> Fault {
+    let starts = start_places(sheet);
+    let parts = base_count(sheet);
+    if starts.len() != usize::from(parts) {
+        return Fault::StartPlaces {
+            places: starts.len(),
+            parts,
+        };
     }
-    p
-}
-
-fn say_start_places(sheet: &[u8]) -> Said {
-    let places = start_places(sheet);
-    let parts = base_count(sheet) as usize;
-    if places.len() != parts {
-        return say(6, places.len(), parts, 0, 0);
+    let places = place_count(sheet);
+    let part = starts
+        .iter()
+        .position(|&x| places <= x)
+        .unwrap_or(starts.len());
+    Fault::StartPlace {
+        part,
+        place: byte_at(starts, part),
+        places,
     }
-    let n = place_count(sheet);
-    let p = first_misplaced(places, n);
-    say(7, p, byte_at(places, p) as usize, n as usize, 0)
-}
-
-fn in_order(b: Bond, c: Bond) -> bool {
-    if b.lo < c.lo {
-        return true;
-    }
-    if c.lo < b.lo {
-        return false;
-    }
-    b.hi < c.hi
 }
 
 // A start coupling keeps its rule: its parts are there, the lower first, in one place.
 fn is_coupling(sheet: &[u8], b: Bond) -> bool {
-    if b.hi <= b.lo {
-        return false;
-    }
-    if base_count(sheet) <= b.hi {
-        return false;
-    }
     let places = start_places(sheet);
-    byte_at(places, b.lo as usize) == byte_at(places, b.hi as usize)
+    b.lo < b.hi
+        && b.hi < base_count(sheet)
+        && byte_at(places, usize::from(b.lo)) == byte_at(places, usize::from(b.hi))
 }
 
-// The first start coupling that breaks its rule or does not stand behind the one before; how many there are where none does.
-fn first_misfit(sheet: &[u8], n: u16) -> u16 {
+// The first start coupling that breaks its rule or does not stand behind the one before.
+fn first_misfit(sheet: &[u8], n: u16) -> Option<u16> {
     let mut before = Bond { lo: 0, hi: 0 };
-    let mut i: u16 = 0;
-    while i < n {
+    for i in 0..n {
         let b = start_bond(sheet, i);
-        if !is_coupling(sheet, b) {
-            return i;
-        }
-        if !in_order(before, b) {
-            return i;
+        if !is_coupling(sheet, b) || (b.lo, b.hi) <= (before.lo, before.hi) {
+            return Some(i);
         }
         before = b;
-        i += 1;
     }
-    n
+    None
 }
 
-fn say_start_couplings(sheet: &[u8]) -> Said {
+fn start_couplings_fault(sheet: &[u8]) -> Fault {
     let bytes = start_bonds(sheet);
     if bytes.len() % 2 != 0 {
-        return say(8, bytes.len(), 0, 0, 0);
+        return Fault::OddCouplings(bytes.len());
     }
     let n = start_bond_count(sheet);
-    let i = first_misfit(sheet, n);
-    let b = start_bond(sheet, i);
-    say(9, i as usize, b.lo as usize, b.hi as usize, 0)
+    let i = first_misfit(sheet, n).unwrap_or(n);
+    Fault::StartCoupling {
+        i,
+        bond: start_bond(sheet, i),
+    }
 }
 
 // ---- a step
 
 // The first step that is refused; how many there are where none is.
-fn first_refused(sheet: &[u8], n: u8) -> u8 {
-    let mut k: u8 = 0;
-    while k < n {
-        if transition_refusal(sheet, Transition(k as u16)) != 0 {
+fn first_refused(sheet: &[u8]) -> u8 {
+    let n = transition_count(sheet);
+    for k in 0..n {
+        if transition_refusal(sheet, Transition(u16::from(k))) != 0 {
             return k;
         }
-        k += 1;
     }
     n
 }
 
-fn say_width(k: usize, b: &[u8]) -> Said {
-    let width = arcs_width(b);
-    if b.len() != width {
-        return say(10, k, b.len(), width, 0);
+fn width_fault(step: u8, b: &[u8]) -> Fault {
+    let to_be = arcs_width(b);
+    if b.len() != to_be {
+        return Fault::Width {
+            step,
+            is: b.len(),
+            to_be,
+        };
     }
-    say(11, k, entry_count(b) as usize, 0, 0)
+    Fault::Entries {
+        step,
+        entries: entry_count(b),
+    }
 }
 
 // An entry names what is there, and its part is above the one before.
-fn is_entry(e: Entry, above: usize, places: u8, parts: u8) -> bool {
-    if (e.base as usize) < above {
-        return false;
-    }
-    if parts <= e.base {
-        return false;
-    }
-    if places <= e.from {
-        return false;
-    }
-    e.to < places
+fn is_entry(e: Entry, above: u16, places: u8, parts: u8) -> bool {
+    above <= u16::from(e.base) && e.base < parts && e.from < places && e.to < places
 }
 
 // The first entry that does not; how many there are where all do.
-fn first_stray(b: &[u8], n: u8, places: u8, parts: u8) -> u8 {
+fn first_stray(b: &[u8], places: u8, parts: u8) -> u8 {
     let mut above = 0;
-    let mut i: u8 = 0;
-    while i < n {
+    let n = entry_count(b);
+    for i in 0..n {
         let e = entry(b, i);
         if !is_entry(e, above, places, parts) {
             return i;
         }
-        above = e.base as usize + 1;
-        i += 1;
+        above = u16::from(e.base) + 1;
     }
     n
 }
 
-fn say_entry(k: usize, b: &[u8], places: u8, parts: u8) -> Said {
-    let i = first_stray(b, entry_count(b), places, parts);
-    let e = entry(b, i);
-    say(12, k, e.base as usize, e.from as usize, e.to as usize)
-}
-
-fn say_step(sheet: &[u8], number: u8) -> Said {
-    let k = first_refused(sheet, transition_count(sheet));
-    let b = transition_bytes(sheet, Transition(k as u16));
-    if number == 7 {
-        return say_width(k as usize, b);
-    }
-    if number == 8 {
-        return say_entry(k as usize, b, place_count(sheet), base_count(sheet));
-    }
-    say(13, k as usize, 0, 0, 0)
-}
-
-fn say_counts(sheet: &[u8]) -> Said {
-    say(
-        2,
-        place_count(sheet) as usize,
-        base_count(sheet) as usize,
-        transition_count(sheet) as usize,
-        0,
-    )
-}
-
-// Why a sheet is refused by a number: a line of the table below, and its numbers.
-fn say_refused(sheet: &[u8], number: u8) -> Said {
+fn step_fault(sheet: &[u8], number: u8) -> Fault {
+    let step = first_refused(sheet);
+    let b = transition_bytes(sheet, Transition(u16::from(step)));
     match number {
-        1 => say(0, sheet.len(), 0, 0, 0),
-        2 => say(1, version(sheet) as usize, 0, 0, 0),
-        3 => say_counts(sheet),
-        4 => say_pairs(sheet),
-        5 => say_start_places(sheet),
-        6 => say_start_couplings(sheet),
-        _ => say_step(sheet, number),
+        7 => width_fault(step, b),
+        8 => {
+            let i = first_stray(b, place_count(sheet), base_count(sheet));
+            Fault::Stray {
+                step,
+                entry: entry(b, i),
+            }
+        }
+        _ => Fault::Coupling { step },
+    }
+}
+
+// Why a sheet is refused by a number.
+fn fault_of(sheet: &[u8], number: u8) -> Fault {
+    match number {
+        1 => Fault::Size(sheet.len()),
+        2 => Fault::Version(version(sheet)),
+        3 => Fault::Counts {
+            places: place_count(sheet),
+            parts: base_count(sheet),
+            steps: transition_count(sheet),
+        },
+        4 => pairs_fault(sheet),
+        5 => start_places_fault(sheet),
+        6 => start_couplings_fault(sheet),
+        _ => step_fault(sheet, number),
     }
 }
 
 // The same in words.
-pub fn put_refused(buf: &mut [u8], sheet: &[u8], number: u8) -> usize {
-    put_said(
-        buf,
-        b"the sheet has # bytes and is to have 4 to 32768\n\
-          the version is # and is to be 1\n\
-          places # parts # steps # and each is to be 1 to 64\n\
-          the pairs end at byte # and the sheet at #\n\
-          pair # has offset # and is to have #\n\
-          the last of # pairs does not end at byte # but at #\n\
-          the start places are # and the parts #\n\
-          part # starts at # and the places are #\n\
-          the start couplings have # bytes and that is odd\n\
-          start coupling # #-# breaks its rule\n\
-          step # has # bytes and its counts give #\n\
-          step # has # entries and is to have 1 to 64\n\
-          step # moves part # from # to # and one of them is not there or the parts do not ascend\n\
-          step # has a coupling that breaks its rule",
-        say_refused(sheet, number),
-    )
+pub fn put_refused(out: &mut Text, sheet: &[u8], number: u8) {
+    out.say(fault_of(sheet, number));
 }

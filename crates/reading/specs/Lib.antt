@@ -1,0 +1,2 @@
+-- How reading ended.
+pub mod Got

@@ -1,8 +1,0 @@
--- `script_lines::same::same_items` is safe and ends.
-use Rattle.script_lines.proofs.same.same_items.Given as goal
-
-abbrev pub invariant-loop-left : goal.invariant-loop-left
-invariant-loop-left l = Unit {0}
-
-abbrev pub decreases-loop-left : goal.decreases-loop-left
-decreases-loop-left l = l.left

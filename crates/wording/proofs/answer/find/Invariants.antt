@@ -1,9 +1,0 @@
--- `wording::answer::find` is safe and ends.
-use Prim.Native.Nat.{◌-◌}
-use Rattle.wording.proofs.answer.find.Given as goal
-
-abbrev pub invariant-loop-i : goal.invariant-loop-i
-invariant-loop-i l = Unit {0}
-
-abbrev pub decreases-loop-i : goal.decreases-loop-i
-decreases-loop-i l = 256 - l.i

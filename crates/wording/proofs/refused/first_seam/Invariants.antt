@@ -1,9 +1,0 @@
--- `wording::refused::first_seam` is safe and ends.
-use Prim.Native.Nat.{◌-◌}
-use Rattle.wording.proofs.refused.first_seam.Given as goal
-
-abbrev pub invariant-loop-k : goal.invariant-loop-k
-invariant-loop-k l = Unit {0}
-
-abbrev pub decreases-loop-k : goal.decreases-loop-k
-decreases-loop-k l = l.n - l.k
