@@ -15,11 +15,10 @@ ghost use Rattle.why.specs.Why.{away_by, absent_by, present_by, torn_by, not_liv
 ghost use Rattle.why.specs.Turned.{Turned};
 
 use commands::Answer;
-use enabling::label_kept;
+use enabling::kept_labels;
 use engine::join_out_bonds;
-use firings::{firing_at, index_of, last_key};
 use format::{byte_at, entry, in_bond, out_bond, transition_bytes, transition_count, word_at};
-use net::{Base, Bond, Entry, Key, MAX_BASES, Place, Transition};
+use net::{Base, Bond, Entry, Key, Place, Transition};
 use reasons::{
     first_absent, first_away, first_common, first_later, first_partner, first_present, first_torn,
 };
@@ -116,14 +115,11 @@ fn why_torn(r: Record, sheet: &[u8], bytes: &[u8]) -> Reason
     ensures { result ≡ torn_by (arcs_of (net_of sheet.now) (transition_named bytes.now)) (held_in sheet.now r).marking }
 {
     let step = step_named(sheet, bytes);
-    let m = r.marking;
-    let mut l = [0u8; MAX_BASES];
-    let mut members = [0u64; MAX_BASES];
-    label_kept(step, &mut l, &mut members, &m.lo, &m.hi, m.count);
-    join_out_bonds(step, &mut l, &mut members);
-    let i = first_torn(step, &l);
+    let mut labels = kept_labels(step, &r.marking);
+    join_out_bonds(step, &mut labels);
+    let i = first_torn(step, &labels.of);
     let e = entry(step, i);
-    let k = first_partner(step, &l, e);
+    let k = first_partner(step, &labels.of, e);
     let d = entry(step, k);
     Reason::Torn(e, d)
 }
@@ -144,9 +140,8 @@ fn key_named(r: Record, sheet: &[u8], bytes: &[u8]) -> Key
     requires { Sound sheet.now r }
     ensures { result ≡ key_named (held_in sheet.now r) bytes.now }
 {
-    let f = r.firings;
     if byte_at(bytes, 0) == 2 {
-        last_key(&f.keys, f.live)
+        r.firings.last_key()
     } else {
         Key(word_at(bytes, 1) as u16)
     }
@@ -159,10 +154,12 @@ fn why_later(r: Record, sheet: &[u8], bytes: &[u8]) -> Reason
 {
     let k = key_named(r, sheet, bytes);
     let f = r.firings;
-    let i = index_of(&f.keys, f.live, k);
+    let Some(i) = f.index_of(k) else {
+        unreachable!();
+    };
     let at = first_later(&f.moved, f.live, i);
-    let mine = firing_at(&f.transitions, &f.keys, &f.moved, i);
-    let other = firing_at(&f.transitions, &f.keys, &f.moved, at);
+    let mine = f.firing_at(i);
+    let other = f.firing_at(at);
     let p = first_common(mine.moved, other.moved);
     Reason::Later(other.key, p as u8)
 }
