@@ -26,11 +26,8 @@ fn take_out(s: &mut [u64], labels: Table, x: usize) {
 fn lay_between(s: &mut [u64], from: Table, to: Table, y: usize, x: usize) {
     for r in 0..65 {
         let stays = less(get(s, cell(Table::Marking, y, r)), get(s, cell(from, y, r)));
-        put(
-            s,
-            cell(Table::Changed, 0, r),
-            stays | get(s, cell(to, x, r)),
-        );
+        let comes = get(s, cell(to, x, r));
+        put(s, cell(Table::Changed, 0, r), stays | comes);
     }
 }
 
