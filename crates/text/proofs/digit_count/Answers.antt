@@ -5,11 +5,8 @@ use mathlib.Core.Path.{◌≡◌}
 use Prim.Native.Nat.{◌≤◌}
 use lib.ListN.{length}
 use Rattle.text.specs.Decimal.{digits}
-use Rattle.text.proofs.Loops.{counted-first, counted-more, counted-all}
+use Rattle.text.proofs.Loops.{counted-more, counted-all}
 use Rattle.text.proofs.digit_count.Goals as goal
-
-pub loop-unit-init : goal.loop-unit-init
-loop-unit-init c = (search rules, search rules, search rules, counted-first _ _)
 
 pub loop-unit-preserved : goal.loop-unit-preserved
 loop-unit-preserved c = (search rules, search rules, search rules, counted-more c.loop-unit.invariant.0 (omega arith) c.loop-unit.invariant.3)
