@@ -59,8 +59,7 @@ fn make_sheet(buf: &mut [u8], acts: &[u64], places: u32, steps: usize) -> Made
     ensures buf_after { buf.new ≡ sets buf.old 0 (bytes_in places steps acts.now) }
 {
     let parts = counts::count_of(acts, 0);
-    let fine = counts::counts_fit(acts, parts, steps);
-    if !fine {
+    if !counts::counts_fit(acts, parts, steps) {
         return Made::TooLarge;
     }
     let size = bytes::put_sheet(buf, acts, places as u8, parts as u8, steps as u8);
@@ -90,10 +89,8 @@ pub fn read_sheet(text: &[u8], buf: &mut [u8]) -> Made
     ensures buf_after { buf.new ≡ sets buf.old 0 (sheet_made (read_text text.now)) }
 {
     let m = first_mistake(text);
-    let line = m.line;
-    let what = m.what;
-    if line != 0 {
-        return Made::Mistake(line, what);
+    if m.line != 0 {
+        return Made::Mistake(m.line, m.what);
     }
     make(text, buf)
 }

@@ -13,9 +13,9 @@ fn no_act(size: usize, places: u32, steps: usize) -> Note
     Note {
         act: 0,
         acts: 0,
-        size: size,
-        places: places,
-        steps: steps,
+        size,
+        places,
+        steps,
     }
 }
 
@@ -25,11 +25,11 @@ fn an_act(tag: usize, p: u32, q: u32, r: u32, size: usize, places: u32, steps: u
     ensures { result ≡ an_act tag p q r size places steps }
 {
     Note {
-        act: tag as u64 * 16777216 + p as u64 * 65536 + q as u64 * 256 + r as u64,
+        act: tag as u64 * 16777216 + u64::from(p) * 65536 + u64::from(q) * 256 + u64::from(r),
         acts: 1,
-        size: size,
-        places: places,
-        steps: steps,
+        size,
+        places,
+        steps,
     }
 }
 
@@ -43,7 +43,7 @@ fn note_of(l: Line, places: u32, steps: usize) -> Note
         Line::Places(n) => no_act(0, n, steps),
         Line::Part(p, x) => an_act(0, x, 0, 0, 1, places, steps),
         Line::Coupled(p, q) => an_act(1, p, q, 0, 2, places, steps),
-        Line::Step(k) => no_act(7, places, steps + 1),
+        Line::Step(_) => no_act(7, places, steps + 1),
         Line::Move(p, i, o) => an_act(3 * steps, p, i, o, 3, places, steps),
         Line::Before(p, q) => an_act(3 * steps + 1, p, q, 0, 2, places, steps),
         Line::After(p, q) => an_act(3 * steps + 2, p, q, 0, 2, places, steps),
@@ -85,8 +85,8 @@ pub fn collect(text: &[u8], acts: &mut [u64]) -> Noted
     Noted {
         fits: true,
         acts: n,
-        places: places,
-        steps: steps,
-        size: size,
+        places,
+        steps,
+        size,
     }
 }
