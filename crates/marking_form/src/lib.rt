@@ -16,22 +16,20 @@ pub fn zero_bytes(a: &[u8], k: usize) -> bool
     ensures { result ≡ zero_from k a.now }
 {
     let mut zero = true;
-    let mut i = k;
-    while i < a.len() {
-        zero = zero & (a[i] == 0);
-        i += 1;
+    for i in k..a.len() {
+        zero &= a[i] == 0;
     }
     zero
 }
 
 // Whether a marking of n bases is in its form: the bonds fit, and unused entries are 0. One in its form is laid out as
 // the marking that it holds is.
-pub fn in_form<'a>(
+pub fn in_form(
     n: usize,
-    places: &'a [Place; MAX_BASES],
+    places: &[Place; MAX_BASES],
     count: usize,
-    lo: &'a [Base; MAX_BONDS],
-    hi: &'a [Base; MAX_BONDS],
+    lo: &[Base; MAX_BONDS],
+    hi: &[Base; MAX_BONDS],
 ) -> bool
     ensures value { result ≡ in_form n (holding places.now count lo.now hi.now) }
     ensures hi_value { result ≡ true → n ≤ max_bases → holding places.now count lo.now hi.now
@@ -45,30 +43,28 @@ pub fn in_form<'a>(
 }
 
 // Whether a and b begin with the same n bytes.
-fn same_bytes<'a>(a: &'a [u8], b: &'a [u8], n: usize) -> bool
+fn same_bytes(a: &[u8], b: &[u8], n: usize) -> bool
     requires { (n ≤ length a.now) × (n ≤ length b.now) }
     ensures { result ≡ same_list eqb (take n a.now) (take n b.now) }
 {
     let mut same = true;
-    let mut i = 0;
-    while i < n {
-        same = same & (a[i] == b[i]);
-        i += 1;
+    for i in 0..n {
+        same &= a[i] == b[i];
     }
     same
 }
 
 // Whether two markings of n bases are the same. Callers know that the bonds fit and n is within its limit.
-pub fn same_marking<'a>(
+pub fn same_marking(
     n: usize,
-    places: &'a [Place; MAX_BASES],
+    places: &[Place; MAX_BASES],
     count: usize,
-    lo: &'a [Base; MAX_BONDS],
-    hi: &'a [Base; MAX_BONDS],
-    placed: &'a [Place; MAX_BASES],
+    lo: &[Base; MAX_BONDS],
+    hi: &[Base; MAX_BONDS],
+    placed: &[Place; MAX_BASES],
     held: usize,
-    los: &'a [Base; MAX_BONDS],
-    his: &'a [Base; MAX_BONDS],
+    los: &[Base; MAX_BONDS],
+    his: &[Base; MAX_BONDS],
 ) -> bool
     requires { (n ≤ max_bases) × (count ≤ max_bonds) × (held ≤ max_bonds) }
     ensures { result ≡ same_marking (marking_of n (holding places.now count lo.now hi.now))
