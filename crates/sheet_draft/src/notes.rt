@@ -1,6 +1,6 @@
 // The acts of a text's lines, each as one number, into a lent array.
-ghost use Rattle.std.specs.Prelude.{◌≡◌, ◌≤◌, length};
-ghost use Rattle.sheet_draft.specs.Notes.{no_act, an_act, note_of, Collected};
+ghost use Rattle.std.specs.Prelude.{◌≡◌, ◌≤◌, false, leb, length, IsNone, IfSome};
+ghost use Rattle.sheet_draft.specs.Notes.{no_act, an_act, note_of, notes_of, most_bytes, Collected};
 
 use crate::{Note, Noted};
 use lexing::{Class, end_of};
@@ -53,9 +53,10 @@ fn note_of(l: Line, places: u32, steps: usize) -> Note
 
 // The acts of a text, one behind the other, up to the line that makes the sheet too large. The array has room for an act
 // for each byte of a sheet and one more.
-pub fn collect(text: &[u8], acts: &mut [u64]) -> Noted
+pub fn collect(text: &[u8], acts: &mut [u64]) -> Option<Noted>
     requires { 65536 ≤ length acts.old }
-    ensures { Collected text.now acts.new result }
+    ensures too_large { IsNone result → false ≡ leb (notes_of text.now).size most_bytes }
+    ensures collected { IfSome result (Collected text.now acts.new) }
 {
     let mut at = 0;
     let mut n = 0;
@@ -68,13 +69,7 @@ pub fn collect(text: &[u8], acts: &mut [u64]) -> Noted
         let x = note_of(l, places, steps);
         size += x.size;
         if 65535 < size {
-            return Noted {
-                fits: false,
-                acts: 0,
-                places: 0,
-                steps: 0,
-                size: 0,
-            };
+            return None;
         }
         acts[n] = x.act;
         n += x.acts;
@@ -82,11 +77,10 @@ pub fn collect(text: &[u8], acts: &mut [u64]) -> Noted
         steps = x.steps;
         at = to + 1;
     }
-    Noted {
-        fits: true,
+    Some(Noted {
         acts: n,
         places,
         steps,
         size,
-    }
+    })
 }
