@@ -7,7 +7,7 @@ ghost use Rattle.text.specs.Decimal.{digits};
 ghost use Rattle.text.specs.Writes.{Wrote};
 
 // How many digits `put_digits` writes: as many as n has, and at most `places`.
-fn digit_count(n: u32, places: usize) -> usize
+pub fn digit_count(n: u32, places: usize) -> usize
     ensures value { result ≡ length (digits places n) }
     ensures upper_bound { result ≤ places }
 {
