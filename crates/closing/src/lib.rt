@@ -16,7 +16,7 @@ fn put_item(buf: &mut [u8], at: usize, n: u16) -> usize
     ensures { Wrote (item n) at buf.old result buf.new }
 {
     let a = put_word(buf, at, b" ");
-    put_digits(buf, a, n as u32, 10)
+    put_digits(buf, a, u32::from(n), 10)
 }
 
 // All numbers of a list.
@@ -25,10 +25,8 @@ fn put_items(buf: &mut [u8], at: usize, ns: &[u16]) -> usize
     ensures { Wrote (items ns.now) at buf.old result buf.new }
 {
     let mut pos = at;
-    let mut i = 0;
-    while i < ns.len() {
-        pos = put_item(buf, pos, ns[i]);
-        i += 1;
+    for n in ns {
+        pos = put_item(buf, pos, *n);
     }
     pos
 }
@@ -56,8 +54,7 @@ fn put_bond(buf: &mut [u8], at: usize, lo: Base, hi: Base) -> usize
     requires { at + bond_room ≤ length buf.old }
     ensures { Wrote (bond_line lo hi) at buf.old result buf.new }
 {
-    let ends = [lo as u16, hi as u16];
-    put_row(buf, at, b"bond", &ends)
+    put_row(buf, at, b"bond", &[u16::from(lo), u16::from(hi)])
 }
 
 // A line for each of the first n bonds, in their order.
@@ -66,10 +63,8 @@ pub fn put_bonds(buf: &mut [u8], at: usize, lo: &[Base], hi: &[Base], n: usize) 
     ensures { Wrote (bond_lines (bonds_in lo.now hi.now n)) at buf.old result buf.new }
 {
     let mut pos = at;
-    let mut i = 0;
-    while i < n {
+    for i in 0..n {
         pos = put_bond(buf, pos, lo[i], hi[i]);
-        i += 1;
     }
     pos
 }
@@ -87,6 +82,5 @@ pub fn put_tally(buf: &mut [u8], at: usize, fired: u16, undone: u16, refused: u1
     requires { at + 6 + item_room * 3 ≤ length buf.old }
     ensures { Wrote (tally_line fired undone refused) at buf.old result buf.new }
 {
-    let counts = [fired, undone, refused];
-    put_row(buf, at, b"tally", &counts)
+    put_row(buf, at, b"tally", &[fired, undone, refused])
 }

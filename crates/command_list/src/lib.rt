@@ -9,26 +9,19 @@ ghost use Rattle.command_list.specs.Block.{unfit_for, turned_by};
 const MAX_BLOCK: usize = 1000;
 
 // The bytes of the command from `at` on: three, or those that are left. `run` asks only below the length.
-pub fn command_at<'a>(commands: &'a [u8], at: usize) -> &'a [u8]
+pub fn command_at(commands: &[u8], at: usize) -> &[u8]
     requires { at < length commands.now }
     ensures { result.now ≡ take 3 (drop at commands.now) }
 {
-    let n = commands.len();
-    if n - at < 3 {
-        return &commands[at..n];
-    }
-    &commands[at..at + 3]
+    let rest = &commands[at..];
+    &rest[..rest.len().min(3)]
 }
 
 // How many commands the bytes hold, a last one cut short among them.
 pub fn how_many(commands: &[u8]) -> usize
     ensures { result ≡ how_many commands.now }
 {
-    let n = commands.len();
-    if n == 0 {
-        return 0;
-    }
-    (n - 1) / 3 + 1
+    commands.len().div_ceil(3)
 }
 
 // Refusal 26 of a block (document 02, T-02), for lists of so many entries.
@@ -36,19 +29,15 @@ fn unfit(block: &[u8], words: usize, values: usize) -> bool
     ensures { result ≡ unfit_for block.now words values }
 {
     let n = how_many(block);
-    if MAX_BLOCK < n {
-        return true;
-    }
-    words < n || values < n
+    MAX_BLOCK < n || words < n || values < n
 }
 
 // What turns a block away: the number of 1 to 10 that the caller has found, or 26; 0 where nothing does.
 pub fn block_refusal(refusal: u8, block: &[u8], words: usize, values: usize) -> u8
     ensures { result ≡ turned_by refusal block.now words values }
 {
-    let short = unfit(block, words, values);
     if refusal != 0 {
         return refusal;
     }
-    if short { 26 } else { 0 }
+    if unfit(block, words, values) { 26 } else { 0 }
 }

@@ -6,14 +6,14 @@ ghost use Rattle.std.specs.Prelude.{◌++◌, ◌+◌, ◌≤◌, length};
 ghost use Rattle.text.specs.Writes.{Wrote};
 ghost use Rattle.encode.specs.Encoding.{word};
 
+use text::put_word;
+
 // A two-byte number, low byte first. The caller has checked that the buffer is long enough, as for the function below.
 pub fn put_number(buf: &mut [u8], at: usize, n: u16) -> usize
     requires { at + 2 ≤ length buf.old }
     ensures { Wrote (word n) at buf.old result buf.new }
 {
-    buf[at] = (n % 256) as u8;
-    buf[at + 1] = (n / 256) as u8;
-    at + 2
+    put_word(buf, at, &n.to_le_bytes())
 }
 
 // A pair: offset and length. Its four bytes are there, as the caller has checked.

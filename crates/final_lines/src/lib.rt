@@ -19,13 +19,7 @@ use tally::Tally;
 fn widened(places: [Place; MAX_BASES]) -> [u16; MAX_BASES]
     ensures { result ≡ places }
 {
-    let mut wide = [0u16; MAX_BASES];
-    let mut i = 0;
-    while i < MAX_BASES {
-        wide[i] = places[i] as u16;
-        i += 1;
-    }
-    wide
+    places.map(u16::from)
 }
 
 // `places` and the places of the first n bases. `put_closing` sees to the room, as for the function below.
@@ -54,13 +48,9 @@ pub fn put_closing(buf: &mut [u8], at: usize, bases: usize, r: Record, t: Tally)
     ensures upper_bound { result ≤ at + closing_room }
 {
     let m = r.marking;
-    let places = m.places;
-    let lo = m.lo;
-    let hi = m.hi;
-    let count = m.count;
     let f = r.firings;
-    let a = put_base_places(buf, at, places, bases);
-    let b = put_bonds(buf, a, &lo, &hi, count);
+    let a = put_base_places(buf, at, m.places, bases);
+    let b = put_bonds(buf, a, &m.lo, &m.hi, m.count);
     let c = put_live_keys(buf, b, &f.keys, f.live);
     put_tally(buf, c, t.fired, t.undone, t.refused)
 }

@@ -19,14 +19,12 @@ fn placed(s: &[u8]) -> [Place; MAX_BASES]
     ensures { result ≡ padded max_bases s.now }
 {
     let mut places = [0u8; MAX_BASES];
-    let mut i = 0;
-    while i < s.len() {
-        places[i] = s[i];
-        i += 1;
-    }
+    places[..s.len()].copy_from_slice(s);
     places
 }
 
+// The two ends of each coupling.
+// Kept: two arrays, since the fields lo and hi of marking's Marking are two arrays, which all laws of its form name.
 #[derive(Clone, Copy)]
 struct Ends {
     lo: [Base; MAX_BONDS],
@@ -42,14 +40,12 @@ fn start_ends(sheet: &[u8]) -> Ends
     let count = start_bond_count(sheet);
     let mut lo = [0u8; MAX_BONDS];
     let mut hi = [0u8; MAX_BONDS];
-    let mut i: u16 = 0;
-    while i < count {
+    for i in 0..count {
         let b = start_bond(sheet, i);
         lo[i as usize] = b.lo;
         hi[i as usize] = b.hi;
-        i += 1;
     }
-    Ends { lo: lo, hi: hi }
+    Ends { lo, hi }
 }
 
 // The start marking. Callers have an accepted sheet: its start places are one for each base, and its start couplings are
@@ -58,16 +54,13 @@ pub fn start_marking(sheet: &[u8]) -> Marking
     requires { StartFits sheet.now }
     ensures { result ≡ laid (start_marking sheet.now) }
 {
-    let s = start_places(sheet);
-    let places = placed(s);
-    let ends = start_ends(sheet);
-    let lo = ends.lo;
-    let hi = ends.hi;
-    let count = start_bond_count(sheet);
+    let places = placed(start_places(sheet));
+    let Ends { lo, hi } = start_ends(sheet);
+    let count = start_bond_count(sheet) as usize;
     Marking {
-        places: places,
-        count: count as usize,
-        lo: lo,
-        hi: hi,
+        places,
+        count,
+        lo,
+        hi,
     }
 }

@@ -23,10 +23,8 @@ pub fn unfit_layout(bases: usize, places: Place, layout: &[u8]) -> bool
     ensures { result ≡ unfit_layout bases places layout.now }
 {
     let mut unfit = layout.len() != bases;
-    let mut i = 0;
-    while i < layout.len() {
-        unfit = unfit | no_such_place(places, layout[i]);
-        i += 1;
+    for wanted in layout {
+        unfit |= no_such_place(places, *wanted);
     }
     unfit
 }
@@ -40,17 +38,14 @@ fn is_elsewhere(wanted: u8, place: Place) -> bool
 
 // The first of n bases that is not where it is wanted; n where there is none. The callers have seen that 27 does not hold, on a
 // sheet of n bases.
-pub fn wrong_base<'a>(layout: &'a [u8], places: &'a [Place; MAX_BASES], n: usize) -> usize
+pub fn wrong_base(layout: &[u8], places: &[Place; MAX_BASES], n: usize) -> usize
     requires { (n ≤ length layout.now) × (n ≤ max_bases) }
     ensures { result ≡ wrong_base n layout.now places.now }
 {
-    let mut p = 0;
-    while p < n {
-        let wrong = is_elsewhere(layout[p], places[p]);
-        if wrong {
+    for p in 0..n {
+        if is_elsewhere(layout[p], places[p]) {
             return p;
         }
-        p += 1;
     }
     n
 }

@@ -12,6 +12,7 @@ ghost use Rattle.text.specs.Writes.{Filled};
 ghost use Rattle.report.specs.Said.{max_commands};
 ghost use Rattle.output.specs.Output.{sheet_in, command_bytes, refused_sheet, session_text, output, max_output};
 
+use command_list::how_many;
 use final_lines::put_closing;
 use format::{base_count, word_at};
 use net::Verdict;
@@ -31,33 +32,25 @@ const COMMAND_BYTES: usize = 3 * MAX_COMMANDS;
 pub const MAX_OUTPUT: usize = 1630843;
 
 // At most so many bytes of a list, from a position on: those that are there.
-fn bytes_from<'a>(s: &'a [u8], from: usize, most: usize) -> &'a [u8]
+fn bytes_from(s: &[u8], from: usize, most: usize) -> &[u8]
     ensures { result.now ≡ take most (drop from s.now) }
 {
-    let n = s.len();
-    if n <= from {
-        return &s[n..n];
-    }
-    if n - from < most {
-        return &s[from..n];
-    }
-    &s[from..from + most]
+    let rest = &s[from.min(s.len())..];
+    &rest[..most.min(rest.len())]
 }
 
 // The sheet: as many bytes as the first two say, or those that are there.
-fn sheet_in<'a>(input: &'a [u8]) -> &'a [u8]
+fn sheet_in(input: &[u8]) -> &[u8]
     ensures { result.now ≡ sheet_in input.now }
 {
-    let length = word_at(input, 0);
-    bytes_from(input, 2, length)
+    bytes_from(input, 2, word_at(input, 0))
 }
 
 // The bytes of the commands: what comes after the sheet, as far as commands are read.
-fn commands_in<'a>(input: &'a [u8]) -> &'a [u8]
+fn commands_in(input: &[u8]) -> &[u8]
     ensures { result.now ≡ command_bytes input.now }
 {
-    let length = word_at(input, 0);
-    bytes_from(input, 2 + length, COMMAND_BYTES)
+    bytes_from(input, 2 + word_at(input, 0), COMMAND_BYTES)
 }
 
 // Room for a word and for a value of each command. Only the lengths matter.
@@ -89,12 +82,8 @@ fn put_session(buf: &mut [u8], sheet: &[u8], commands: &[u8], r: Record) -> usiz
         refused: 0,
     };
     let ran = run(r, sheet, commands, zero, &mut words, &mut values);
-    let n = (commands.len() + 2) / 3;
-    let at = put_answers(buf, &words, &values, n);
-    let bases = base_count(sheet) as usize;
-    let session = ran.session;
-    let tally = ran.tally;
-    put_closing(buf, at, bases, session, tally)
+    let at = put_answers(buf, &words, &values, how_many(commands));
+    put_closing(buf, at, base_count(sheet) as usize, ran.session, ran.tally)
 }
 
 // `sheet refused` and the number. `write_output` sees to the room.
@@ -116,13 +105,8 @@ pub fn write_output(input: &[u8], buf: &mut [u8]) -> usize
 {
     let sheet = sheet_in(input);
     let begun = start(sheet);
-    let answer = begun.answer;
-    match answer {
-        Verdict::Accepted => {
-            let commands = commands_in(input);
-            let r = begun.session;
-            put_session(buf, sheet, commands, r)
-        }
+    match begun.answer {
+        Verdict::Accepted => put_session(buf, sheet, commands_in(input), begun.session),
         Verdict::Refused(n) => put_refused(buf, n),
     }
 }

@@ -15,6 +15,7 @@ use page_lines::lay_page;
 use words::count_bases;
 
 // The numbers of a list's firings: as many as a list may have.
+// Kept: three arrays and a count, since Laid of lay_page and with_firing name them, and the engine has no heap.
 #[derive(Clone, Copy)]
 struct Rows {
     count: usize,
@@ -23,18 +24,21 @@ struct Rows {
     moved: [u8; MAX_LIVE],
 }
 
+// No firing.
+#[tactic(auto, unfolding(crate::specs::Rows::no_rows))]
 fn no_rows() -> Rows
     ensures { result ≡ no_rows }
 {
     Rows {
         count: 0,
-        keys: [0u16; MAX_LIVE],
-        steps: [0u8; MAX_LIVE],
-        moved: [0u8; MAX_LIVE],
+        keys: [0; MAX_LIVE],
+        steps: [0; MAX_LIVE],
+        moved: [0; MAX_LIVE],
     }
 }
 
 // One firing more, where there is room.
+#[tactic(auto, unfolding(crate::specs::Rows::with_firing))]
 fn with_firing(r: Rows, f: Firing) -> Rows
     ensures { result ≡ with_firing r f }
 {
@@ -54,10 +58,7 @@ fn with_firing(r: Rows, f: Firing) -> Rows
 fn laid(r: Rows, n: usize, number: u16, buf: &mut [u8]) -> Verdict
     ensures { Laid (rows_in r.keys r.steps r.moved n) n number buf.old result buf.new }
 {
-    let keys = r.keys;
-    let steps = r.steps;
-    let moved = r.moved;
-    lay_page(buf, &keys, &steps, &moved, n, number)
+    lay_page(buf, &r.keys, &r.steps, &r.moved, n, number)
 }
 
 // A page of the list into the lent buffer: every byte of it is said, and nothing is written where the page is refused.
@@ -65,10 +66,8 @@ pub fn page(list: &[Firing], number: u16, buf: &mut [u8]) -> Verdict
     ensures { Paged list.now number buf.old result buf.new }
 {
     let mut rows = no_rows();
-    let mut i = 0;
-    while i < list.len() {
-        rows = with_firing(rows, list[i]);
-        i += 1;
+    for f in list {
+        rows = with_firing(rows, *f);
     }
     laid(rows, list.len(), number, buf)
 }
@@ -80,15 +79,14 @@ const LENT: usize = 257;
 fn at_most(n: usize) -> usize
     ensures { result ≡ pick (ltb n lent_firings) n lent_firings }
 {
-    if n < LENT { n } else { LENT }
+    n.min(LENT)
 }
 
 // The same by value, so that a program can make the call: the first n firings of an array are lent to `page`.
 pub fn page_of(firings: [Firing; LENT], n: usize, number: u16, buf: &mut [u8]) -> Verdict
     ensures { Paged (take n firings) number buf.old result buf.new }
 {
-    let k = at_most(n);
-    page(&firings[..k], number, buf)
+    page(&firings[..at_most(n)], number, buf)
 }
 
 // The list that a record gives, as `page_of` takes it.
@@ -101,11 +99,6 @@ pub fn lendable(list: [Firing; MAX_LIVE]) -> [Firing; LENT]
         moved: 0,
     };
     let mut a = [zero; LENT];
-    let mut i = 0;
-    while i < MAX_LIVE {
-        let f = list[i];
-        a[i] = f;
-        i += 1;
-    }
+    a[..MAX_LIVE].copy_from_slice(&list);
     a
 }

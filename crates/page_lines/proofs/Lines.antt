@@ -1,22 +1,21 @@
 -- Laws of the lines of a page: spaces, how many digits a number has, a number in its columns, and that pieces make a line.
 -- Assumes nothing.
 use mathlib.Core.Path.{◌≡◌, refl, sym, ap, subst, ◌∙◌}
-use Prim.Native.Nat.{ℕ, suc, ◌+◌, ◌-◌, ◌/◌, ◌%◌, ◌<◌, ◌≤◌}
+use Prim.Native.Nat.{ℕ, zero, suc, ◌+◌, ◌-◌, ◌/◌, ◌%◌, ◌<◌, ◌≤◌}
 use native.Mathlib.Omega.{arith}
 use native.Mathlib.Nat.{add-zero, zero-add}
 use mathlib.Core.Bool.{Bool}
 use mathlib.Core.List.{List, [], ◌∷◌, ◌++◌}
-use lib.ListN.{length, get_or, set, length-append}
-use lib.Seq.{sets}
+use lib.ListN.{length, get_or, replicate, length-append}
 use lib.Dec.{ltb}
 use borrow.Author.Tests.{lt-ltb, le-ltb, ltb-true, ltb-false}
 use Rattle.causal.proofs.Tests.{test}
 use Rattle.net.specs.Tests.{pick, table}
-use Rattle.net.proofs.Tables.{length-table, get_d-table, table_more}
+use Rattle.net.proofs.Tables.{length-table, get_d-table}
 use Rattle.text.specs.Decimal.{digits, decimal}
 use Rattle.text.specs.Writes.{Wrote, Filled}
 use Rattle.text.specs.Joined.{joined}
-use Rattle.text.proofs.Writes.{Written, sets-snoc, written_none, written-more, written-pair}
+use Rattle.text.proofs.Writes.{Written, written_none, written-more, written-pair}
 use Rattle.page_lines.specs.Page.{Row, row, blanks, right_in, line, row_text, row_line, blank_line, last_line, line_at, rows_in, columns}
 
 -- ---- Spaces
@@ -24,12 +23,10 @@ use Rattle.page_lines.specs.Page.{Row, row, blanks, right_in, line, row_text, ro
 pub blanks-length : (k : ℕ) → length (blanks k) ≡ k
 blanks-length k = length-table k (λ _. 32)
 
--- one space more
-pub blanks-more : (b : List ℕ) (at i : ℕ) → set (sets b at (blanks i)) (at + i) 32 ≡ sets b at (blanks (i + 1))
-blanks-more b at i =
-    ap (λ (k : ℕ). set (sets b at (blanks i)) (at + k) 32) (sym (blanks-length i))
-    ∙ sets-snoc (blanks i) b at 32
-    ∙ ap (sets b at) (sym (table_more i (λ _. 32)))
+-- as std has them
+pub replicate-blanks : (k : ℕ) → replicate k 32 ≡ blanks k
+replicate-blanks zero = refl
+replicate-blanks (suc k) = ap (λ (l : List ℕ). 32 ∷ l) (replicate-blanks k)
 
 -- ---- How many digits
 

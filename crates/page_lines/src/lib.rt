@@ -13,38 +13,15 @@ ghost use Rattle.page_lines.specs.Page.{row, columns, page_bytes, blanks, right_
 ghost use Rattle.page_lines.specs.Answers.{pages_of, page_checks, Laid};
 
 use net::{MAX_LIVE, Verdict};
-use text::{put_digits, put_word};
+use text::{digit_count, put_digits, put_word};
 
 // k spaces. The callers have seen that the buffer has room, here and in the writers below.
 fn put_blanks(buf: &mut [u8], at: usize, k: usize) -> usize
     requires { at + k ≤ length buf.old }
     ensures { Wrote (blanks k) at buf.old result buf.new }
 {
-    let mut i = 0;
-    while i < k {
-        buf[at + i] = b' ';
-        i += 1;
-    }
-    at + i
-}
-
-// How many digits n has.
-fn digit_count(n: u16) -> usize
-    ensures { result ≡ length (decimal n) }
-{
-    if n < 10 {
-        return 1;
-    }
-    if n < 100 {
-        return 2;
-    }
-    if n < 1000 {
-        return 3;
-    }
-    if n < 10000 {
-        return 4;
-    }
-    5
+    buf[at..at + k].fill(b' ');
+    at + k
 }
 
 // n at the right end of some columns, where it fits.
@@ -52,7 +29,7 @@ fn put_right(buf: &mut [u8], at: usize, n: u16, width: usize) -> usize
     requires { (at + width + 10 ≤ length buf.old) × (length (decimal n) ≤ width) }
     ensures { Wrote (right_in width n) at buf.old result buf.new × (result ≡ at + width) }
 {
-    let k = digit_count(n);
+    let k = digit_count(u32::from(n), 10);
     let a = put_blanks(buf, at, width - k);
     put_digits(buf, a, n as u32, 10)
 }
@@ -104,9 +81,10 @@ fn put_line_at(
         × (result ≡ at + columns + 1) }
 {
     if i < n {
-        return put_row(buf, at, keys[i], steps[i], moved[i]);
+        put_row(buf, at, keys[i], steps[i], moved[i])
+    } else {
+        put_rest(buf, at, at)
     }
-    put_rest(buf, at, at)
 }
 
 // The 50 lines of a page, for the first n firings. `put_page` has a page number from 1 on.
@@ -124,10 +102,8 @@ fn put_lines(
 {
     let from = 50 * (number as usize - 1);
     let mut pos = 0;
-    let mut i = 0;
-    while i < 50 {
+    for i in 0..50 {
         pos = put_line_at(buf, pos, keys, steps, moved, n, from + i);
-        i += 1;
     }
     pos
 }
@@ -153,10 +129,7 @@ fn pages_of(n: usize) -> usize
     requires { n ≤ max_live }
     ensures { result ≡ pages_of n }
 {
-    if n == 0 {
-        return 1;
-    }
-    (n + 49) / 50
+    if n == 0 { 1 } else { n.div_ceil(50) }
 }
 
 // Refusals 23 to 25, for a buffer of `room` bytes and a list of n firings: the number of the first that holds, 0 where none does.

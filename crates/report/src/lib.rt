@@ -22,17 +22,16 @@ pub struct Written {
 }
 
 // The word with a space on either side: 0 is fired, 1 is undone, any other is refused. `put_line` sees to the room.
+#[tactic(auto, unfolding(crate::specs::Lines::word_text))]
 fn put_answer(buf: &mut [u8], at: usize, word: u8) -> usize
     requires { at + 9 ≤ length buf.old }
     ensures { Wrote (word_text word) at buf.old result buf.new }
 {
-    if word == 0 {
-        return put_word(buf, at, b" fired ");
+    match word {
+        0 => put_word(buf, at, b" fired "),
+        1 => put_word(buf, at, b" undone "),
+        _ => put_word(buf, at, b" refused "),
     }
-    if word == 1 {
-        return put_word(buf, at, b" undone ");
-    }
-    put_word(buf, at, b" refused ")
 }
 
 // The line, from `at` on. Answers where it ends. `answer_line` and the whole output see to the room and to the value: a
@@ -78,10 +77,8 @@ pub fn put_answers(buf: &mut [u8], words: &[u8], values: &[u16], n: usize) -> us
     ensures upper_bound { result ≤ min_line * n }
 {
     let mut pos = 0;
-    let mut i = 0;
-    while i < n {
+    for i in 0..n {
         pos = put_line(buf, pos, (i + 1) as u32, words[i], values[i]);
-        i += 1;
     }
     pos
 }

@@ -26,8 +26,7 @@ pub fn read_printed(sheet: &[u8], text: &mut [u8], buf: &mut [u8]) -> Again
     ensures text_after { text.new ≡ sets text.old 0 (text_printed sheet.now) }
     ensures buf_after { buf.new ≡ sets buf.old 0 (bytes_again sheet.now) }
 {
-    let printed = print_sheet(sheet, text);
-    match printed {
+    match print_sheet(sheet, text) {
         Printed::Text(n) => Again::Read(read_sheet(&text[..n], buf)),
         Printed::Refused(n) => Again::Refused(n),
     }

@@ -14,7 +14,6 @@ use Rattle.net.specs.Tests.{pick}
 use Rattle.lexing.specs.Tokens.{lines_of, row}
 use Rattle.lexing.specs.Found.{Reaches}
 use Rattle.lexing.specs.declared.Class.TheVariants.{InLine}
-use Rattle.lexing.proofs.Items.{never}
 use Rattle.sheet_text.specs.Lines.{line_of}
 use Rattle.sheet_text.specs.declared.Line.{Line}
 use Rattle.sheet_text.specs.declared.Line.TheVariants.{Blank, Places, Part, Coupled, Step, Move, Before, After, Wrong}
@@ -129,13 +128,13 @@ module _ (s : List ℕ) (at n places steps size : ℕ) (acts : List ℕ) (f : So
       sym (lt-leb (notes_of s).size most_bytes (omega arith))
 
 -- behind the last line
-pub collected : (s : List ℕ) (at n places steps size : ℕ) (acts : List ℕ) → Sofar s at n places steps size acts → length s < at → (r : Noted) → r ≡ record { fits = true; acts = n; places = places; steps = steps; size = size } → Collected s acts r
+pub collected : (s : List ℕ) (at n places steps size : ℕ) (acts : List ℕ) → Sofar s at n places steps size acts → length s < at → (r : Noted) → r ≡ record { acts = n; places = places; steps = steps; size = size } → Collected s acts r
 collected s at n places steps size acts f h r e =
     let same : notes places steps size (take n acts) ≡ notes_of s =
     ap (foldl noted (notes places steps size (take n acts))) (sym (none_left)) ∙ f.same in
     rw e (record {
-      fits = sym (rw (← same) (le-leb size most_bytes f.upto));
-      all = λ t. same;
+      fits = rw (← same) (le-leb size most_bytes f.upto);
+      all = same;
       few = omega (arith, f.few, f.upto);
       room = omega (arith, f.few, f.upto, f.room);
       places = f.byte;
@@ -143,7 +142,3 @@ collected s at n places steps size acts f h r e =
   where
     none_left : rest_lines s at ≡ []
     none_left = rw (lt-leb at (length s) h)
-
--- a sheet that is too large: nothing more is said of it
-pub refused : (s acts : List ℕ) → false ≡ leb (notes_of s).size most_bytes → Collected s acts (record { fits = false; acts = 0; places = 0; steps = 0; size = 0 })
-refused s acts h = record { fits = h; all = λ t. never t; few = omega arith; room = omega arith; places = omega arith }

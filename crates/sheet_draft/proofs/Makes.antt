@@ -65,18 +65,18 @@ module _ (s : List ℕ) (net : Net) (e : read_text s ≡ understood net) where
 
   -- ---- what was collected of a text that is understood
 
-  module _ (acts : List ℕ) (r : Noted) (c : Collected s acts r) (t : r.fits ≡ true) where
+  module _ (acts : List ℕ) (r : Noted) (c : Collected s acts r) where
     abbrev A : List ℕ
     A = take r.acts acts
 
     says : Says (notes r.places r.steps r.size A) net
-    says = subst (λ (x : Notes). Says x net) (sym (c.all t)) (says-text s net e)
+    says = subst (λ (x : Notes). Says x net) (sym c.all) (says-text s net e)
 
     bytes-are : bytes_of net ≡ sheet_in r.places r.steps A
     bytes-are = ap bytes_of says.same ∙ sheet-is A r.places r.steps
 
     short : length (bytes_of net) ≤ most_bytes
-    short = leb-true (length (bytes_of net)) most_bytes (ap (λ (n : ℕ). leb n most_bytes) (sym size_is) ∙ sym c.fits ∙ t)
+    short = leb-true (length (bytes_of net)) most_bytes (ap (λ (n : ℕ). leb n most_bytes) (sym size_is) ∙ c.fits)
 
     pub to_make : Fits r.places r.steps A
     to_make =
@@ -90,7 +90,7 @@ module _ (s : List ℕ) (net : Net) (e : read_text s ≡ understood net) where
 
     holdable-is : holdable net ≡ counts_fit r.steps A
     holdable-is =
-        let f : leb (length (bytes_of net)) most_bytes ≡ true = ap (λ (n : ℕ). leb n most_bytes) (sym size_is) ∙ sym c.fits ∙ t in
+        let f : leb (length (bytes_of net)) most_bytes ≡ true = ap (λ (n : ℕ). leb n most_bytes) (sym size_is) ∙ c.fits in
         rw f (ap (λ (n : Net). leb n.bases 255 && (leb (length n.transitions) 255 && all holdable_step n.transitions)) says.same ∙ counts-fit A r.places r.steps)
 
     pub made : (x : Made) (b b' : List ℕ) → x ≡ made_in r.places r.steps A → b' ≡ sets b 0 (bytes_in r.places r.steps A) → Makes s x b b'

@@ -2,7 +2,7 @@
 -- Assumes nothing.
 use mathlib.Core.Path.{◌≡◌, refl, sym, ap, ◌∙◌}
 use mathlib.Core.Bool.{Bool, true, false}
-use Prim.Native.Nat.{ℕ, suc, ◌+◌, ◌*◌, ◌<◌, ◌≤◌}
+use Prim.Native.Nat.{ℕ, suc, ◌+◌, ◌*◌, ◌/◌, ◌<◌, ◌≤◌}
 use native.Mathlib.Omega.{arith}
 use native.Mathlib.Numerals.{add-one}
 use native.Mathlib.Nat.{mul-zero, mul-suc}
@@ -10,6 +10,8 @@ use mathlib.Core.List.{List, [], ◌∷◌, ◌++◌, map, map-append, append_as
 use lib.Dec.{eqb}
 use lib.ListN.{length, get_or, take, drop, length-append, take-append-drop}
 use lib.Seq.{take-suc, length-take-le}
+use Rattle.std.proofs.Common.{count_by, nat_eq, cond}
+use Rattle.std.proofs.lemmas.List.Sums.{sum_by-cons}
 use Rattle.net.specs.Tests.{pick, keep}
 use Rattle.text.specs.Joined.{joined}
 use Rattle.sheet_draft.specs.Acts.{tag_of, first_of, second_of, third_of, of_tag}
@@ -53,6 +55,15 @@ count-here false x xs n h = omega arith
 pub count-upto : (t : ℕ) (acts : List ℕ) → count_of t acts ≤ length acts
 count-upto t [] = omega arith
 count-upto t (x ∷ acts) = let h = count-here (eqb (tag_of x) t) x (of_tag t acts) (length acts) (count-upto t acts) in omega arith
+
+-- as std counts them
+count-cond : (b : Bool) (x : ℕ) (xs : List ℕ) (n : ℕ) → n ≡ length xs → cond b 1 0 + n ≡ length (pick b (x ∷ xs) xs)
+count-cond true x xs n e = omega arith
+count-cond false x xs n e = omega arith
+
+pub count_by-of : (t : ℕ) (acts : List ℕ) → count_by (λ (x : ℕ). nat_eq (x / 16777216) t) acts ≡ count_of t acts
+count_by-of t [] = refl
+count_by-of t (x ∷ acts) = sum_by-cons (λ (y : ℕ). cond (nat_eq (y / 16777216) t) 1 0) x acts ∙ count-cond (nat_eq (x / 16777216) t) x (of_tag t acts) _ (count_by-of t acts)
 
 -- ---- their bytes
 

@@ -67,11 +67,11 @@ notes_of s = foldl noted blank_notes (lines_in s)
 abbrev pub most_bytes : ℕ
 most_bytes = 65535
 
--- What the code answers of a text, with the acts that it wrote: whether the sheet is of at most so many bytes; and then
--- the text's notes, with a number of places that a byte holds and no more acts than bytes.
+-- What the code answers of a text whose sheet is of at most so many bytes, with the acts that it wrote: the text's notes,
+-- with a number of places that a byte holds and no more acts than bytes.
 pub record Collected (s acts : List ℕ) (r : Noted) : Type 0 where
-  pub fits : r.fits ≡ leb (notes_of s).size most_bytes
-  pub all : r.fits ≡ true → notes r.places r.steps r.size (take r.acts acts) ≡ notes_of s
+  pub fits : leb (notes_of s).size most_bytes ≡ true
+  pub all : notes r.places r.steps r.size (take r.acts acts) ≡ notes_of s
   pub few : r.acts ≤ most_bytes
   pub room : r.acts ≤ length acts
   pub places : r.places ≤ 255

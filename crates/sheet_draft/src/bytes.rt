@@ -29,12 +29,8 @@ fn put_tagged(buf: &mut [u8], at: usize, acts: &[u64], tag: u64, w: usize) -> us
     ensures { Wrote (tagged w tag acts.now) at buf.old result buf.new }
 {
     let mut pos = at;
-    let mut i = 0;
-    while i < acts.len() {
-        let x = acts[i];
-        let v = width_of(x, tag, w);
-        pos = put_some(buf, pos, v, x);
-        i += 1;
+    for x in acts {
+        pos = put_some(buf, pos, width_of(*x, tag, w), *x);
     }
     pos
 }
@@ -45,8 +41,7 @@ fn put_counted(buf: &mut [u8], at: usize, acts: &[u64], tag: u64, w: usize) -> u
     ensures { Wrote (counted w tag acts.now) at buf.old result buf.new }
 {
     let n = count_of(acts, tag);
-    let one = [n as u8];
-    let a = put_word(buf, at, &one);
+    let a = put_word(buf, at, &[n as u8]);
     put_tagged(buf, a, acts, tag, w)
 }
 
@@ -66,13 +61,11 @@ fn put_stretch(buf: &mut [u8], at: usize, acts: &[u64], j: usize) -> usize
     requires { (j ≤ 257) × (stretch_fits acts.now j ≡ true) × (at + length (stretch_at acts.now j) ≤ length buf.old) }
     ensures { Wrote (stretch_at acts.now j) at buf.old result buf.new }
 {
-    if j == 0 {
-        return put_tagged(buf, at, acts, 0, 1);
+    match j {
+        0 => put_tagged(buf, at, acts, 0, 1),
+        1 => put_tagged(buf, at, acts, 1, 2),
+        _ => put_step(buf, at, acts, j - 2),
     }
-    if j == 1 {
-        return put_tagged(buf, at, acts, 1, 2);
-    }
-    put_step(buf, at, acts, j - 2)
 }
 
 // All that the pairs name, one behind the other.
@@ -81,10 +74,8 @@ fn put_stretches(buf: &mut [u8], at: usize, acts: &[u64], n: usize) -> usize
     ensures { Wrote (joined (stretches_in n acts.now)) at buf.old result buf.new }
 {
     let mut pos = at;
-    let mut j = 0;
-    while j < n {
+    for j in 0..n {
         pos = put_stretch(buf, pos, acts, j);
-        j += 1;
     }
     pos
 }
@@ -114,13 +105,11 @@ fn stretch_size(acts: &[u64], j: usize) -> usize
     requires { (j ≤ 257) × (length acts.now ≤ 65535) }
     ensures { result ≡ length (stretch_at acts.now j) }
 {
-    if j == 0 {
-        return tagged_size(acts, 0, 1);
+    match j {
+        0 => tagged_size(acts, 0, 1),
+        1 => tagged_size(acts, 1, 2),
+        _ => step_size(acts, j - 2),
     }
-    if j == 1 {
-        return tagged_size(acts, 1, 2);
-    }
-    step_size(acts, j - 2)
 }
 
 // The pairs: each stretch begins where the one before it ends.
@@ -130,12 +119,10 @@ fn put_pairs(buf: &mut [u8], at: usize, acts: &[u64], n: usize, from: usize) -> 
 {
     let mut pos = at;
     let mut offset = from;
-    let mut j = 0;
-    while j < n {
+    for j in 0..n {
         let size = stretch_size(acts, j);
         pos = put_pair(buf, pos, offset as u16, size as u16);
         offset += size;
-        j += 1;
     }
     pos
 }
@@ -145,8 +132,7 @@ pub fn put_sheet(buf: &mut [u8], acts: &[u64], places: u8, parts: u8, steps: u8)
     requires { Holds places parts steps acts.now × (65535 ≤ length buf.old) }
     ensures { Filled (sheet_in places steps acts.now) buf.old result buf.new }
 {
-    let head = [1, places, parts, steps];
-    let a = put_word(buf, 0, &head);
+    let a = put_word(buf, 0, &[1, places, parts, steps]);
     let n = steps as usize + 2;
     let b = put_pairs(buf, a, acts, n, 4 * n + 4);
     put_stretches(buf, b, acts, n)

@@ -18,6 +18,7 @@ mod notes;
 // An act for each byte of a sheet, and one more.
 const MAX_ACTS: usize = 65536;
 
+// Kept: an act is one number and how many that is, since act_of, note_of and after of specs/ say the notes so.
 // What a line comes to: its act and how many that is, how many bytes it adds, the places and steps behind it.
 #[derive(Clone, Copy)]
 pub struct Note {
@@ -28,10 +29,9 @@ pub struct Note {
     pub steps: usize,
 }
 
-// What a text comes to: whether the sheet's bytes are not too many, and then how many acts, places, steps and bytes.
+// What a text comes to whose sheet's bytes are not too many: how many acts, places, steps and bytes.
 #[derive(Clone, Copy)]
 pub struct Noted {
-    pub fits: bool,
     pub acts: usize,
     pub places: u32,
     pub steps: usize,
@@ -59,8 +59,7 @@ fn make_sheet(buf: &mut [u8], acts: &[u64], places: u32, steps: usize) -> Made
     ensures buf_after { buf.new ≡ sets buf.old 0 (bytes_in places steps acts.now) }
 {
     let parts = counts::count_of(acts, 0);
-    let fine = counts::counts_fit(acts, parts, steps);
-    if !fine {
+    if !counts::counts_fit(acts, parts, steps) {
         return Made::TooLarge;
     }
     let size = bytes::put_sheet(buf, acts, places as u8, parts as u8, steps as u8);
@@ -74,12 +73,10 @@ fn make(text: &[u8], buf: &mut [u8]) -> Made
     ensures buf_after { buf.new ≡ sets buf.old 0 (sheet_made (read_text text.now)) }
 {
     let mut acts = act_room();
-    let x = notes::collect(text, &mut acts);
-    if !x.fits {
+    let Some(x) = notes::collect(text, &mut acts) else {
         return Made::TooLarge;
-    }
-    let n = x.acts;
-    make_sheet(buf, &acts[..n], x.places, x.steps)
+    };
+    make_sheet(buf, &acts[..x.acts], x.places, x.steps)
 }
 
 // The sheet of a text, into a buffer that has room for the longest sheet: how many bytes it has, or the first mistake, or
@@ -90,10 +87,8 @@ pub fn read_sheet(text: &[u8], buf: &mut [u8]) -> Made
     ensures buf_after { buf.new ≡ sets buf.old 0 (sheet_made (read_text text.now)) }
 {
     let m = first_mistake(text);
-    let line = m.line;
-    let what = m.what;
-    if line != 0 {
-        return Made::Mistake(line, what);
+    if m.line != 0 {
+        return Made::Mistake(m.line, m.what);
     }
     make(text, buf)
 }

@@ -1,6 +1,6 @@
 // The acts of a text's lines, each as one number, into a lent array.
-ghost use Rattle.std.specs.Prelude.{◌≡◌, ◌≤◌, length};
-ghost use Rattle.sheet_draft.specs.Notes.{no_act, an_act, note_of, Collected};
+ghost use Rattle.std.specs.Prelude.{◌≡◌, ◌≤◌, false, leb, length, IsNone, IfSome};
+ghost use Rattle.sheet_draft.specs.Notes.{no_act, an_act, note_of, notes_of, most_bytes, Collected};
 
 use crate::{Note, Noted};
 use lexing::{Class, end_of};
@@ -13,9 +13,9 @@ fn no_act(size: usize, places: u32, steps: usize) -> Note
     Note {
         act: 0,
         acts: 0,
-        size: size,
-        places: places,
-        steps: steps,
+        size,
+        places,
+        steps,
     }
 }
 
@@ -25,11 +25,11 @@ fn an_act(tag: usize, p: u32, q: u32, r: u32, size: usize, places: u32, steps: u
     ensures { result ≡ an_act tag p q r size places steps }
 {
     Note {
-        act: tag as u64 * 16777216 + p as u64 * 65536 + q as u64 * 256 + r as u64,
+        act: tag as u64 * 16777216 + u64::from(p) * 65536 + u64::from(q) * 256 + u64::from(r),
         acts: 1,
-        size: size,
-        places: places,
-        steps: steps,
+        size,
+        places,
+        steps,
     }
 }
 
@@ -43,7 +43,7 @@ fn note_of(l: Line, places: u32, steps: usize) -> Note
         Line::Places(n) => no_act(0, n, steps),
         Line::Part(p, x) => an_act(0, x, 0, 0, 1, places, steps),
         Line::Coupled(p, q) => an_act(1, p, q, 0, 2, places, steps),
-        Line::Step(k) => no_act(7, places, steps + 1),
+        Line::Step(_) => no_act(7, places, steps + 1),
         Line::Move(p, i, o) => an_act(3 * steps, p, i, o, 3, places, steps),
         Line::Before(p, q) => an_act(3 * steps + 1, p, q, 0, 2, places, steps),
         Line::After(p, q) => an_act(3 * steps + 2, p, q, 0, 2, places, steps),
@@ -53,9 +53,10 @@ fn note_of(l: Line, places: u32, steps: usize) -> Note
 
 // The acts of a text, one behind the other, up to the line that makes the sheet too large. The array has room for an act
 // for each byte of a sheet and one more.
-pub fn collect(text: &[u8], acts: &mut [u64]) -> Noted
+pub fn collect(text: &[u8], acts: &mut [u64]) -> Option<Noted>
     requires { 65536 ≤ length acts.old }
-    ensures { Collected text.now acts.new result }
+    ensures too_large { IsNone result → false ≡ leb (notes_of text.now).size most_bytes }
+    ensures collected { IfSome result (Collected text.now acts.new) }
 {
     let mut at = 0;
     let mut n = 0;
@@ -68,13 +69,7 @@ pub fn collect(text: &[u8], acts: &mut [u64]) -> Noted
         let x = note_of(l, places, steps);
         size += x.size;
         if 65535 < size {
-            return Noted {
-                fits: false,
-                acts: 0,
-                places: 0,
-                steps: 0,
-                size: 0,
-            };
+            return None;
         }
         acts[n] = x.act;
         n += x.acts;
@@ -82,11 +77,10 @@ pub fn collect(text: &[u8], acts: &mut [u64]) -> Noted
         steps = x.steps;
         at = to + 1;
     }
-    Noted {
-        fits: true,
+    Some(Noted {
         acts: n,
-        places: places,
-        steps: steps,
-        size: size,
-    }
+        places,
+        steps,
+        size,
+    })
 }

@@ -98,8 +98,7 @@ fn put_coupled(sheet: &[u8], buf: &mut [u8], at: usize, i: u16) -> usize
     requires { at + line_room ≤ length buf.old }
     ensures { Wrote (coupled_at sheet.now i) at buf.old result buf.new }
 {
-    let b = start_bond(sheet, i);
-    put_bond(buf, at, b"coupled ", b)
+    put_bond(buf, at, b"coupled ", start_bond(sheet, i))
 }
 
 // `move P from X to Y`.
@@ -107,8 +106,7 @@ fn put_move(bytes: &[u8], buf: &mut [u8], at: usize, i: u8) -> usize
     requires { at + move_room ≤ length buf.old }
     ensures { Wrote (move_at bytes.now i) at buf.old result buf.new }
 {
-    let e = entry(bytes, i);
-    put_entry(buf, at, e)
+    put_entry(buf, at, entry(bytes, i))
 }
 
 // `before P Q`: an in-coupling.
@@ -116,8 +114,7 @@ fn put_before(bytes: &[u8], buf: &mut [u8], at: usize, i: u8) -> usize
     requires { at + line_room ≤ length buf.old }
     ensures { Wrote (before_at bytes.now i) at buf.old result buf.new }
 {
-    let b = in_bond(bytes, i);
-    put_bond(buf, at, b"before ", b)
+    put_bond(buf, at, b"before ", in_bond(bytes, i))
 }
 
 // `after P Q`: an out-coupling.
@@ -125,8 +122,7 @@ fn put_after(bytes: &[u8], buf: &mut [u8], at: usize, i: u8) -> usize
     requires { at + line_room ≤ length buf.old }
     ensures { Wrote (after_at bytes.now i) at buf.old result buf.new }
 {
-    let b = out_bond(bytes, i);
-    put_bond(buf, at, b"after ", b)
+    put_bond(buf, at, b"after ", out_bond(bytes, i))
 }
 
 // ---- All lines of a list. The callers below have room for as many lines as the list has.
@@ -138,10 +134,8 @@ fn put_parts(sheet: &[u8], buf: &mut [u8], at: usize) -> usize
 {
     let n = base_count(sheet);
     let mut pos = at;
-    let mut i: u8 = 0;
-    while i < n {
+    for i in 0..n {
         pos = put_part(sheet, buf, pos, i);
-        i += 1;
     }
     pos
 }
@@ -153,10 +147,8 @@ fn put_couplings(sheet: &[u8], buf: &mut [u8], at: usize) -> usize
 {
     let n = start_bond_count(sheet);
     let mut pos = at;
-    let mut i: u16 = 0;
-    while i < n {
+    for i in 0..n {
         pos = put_coupled(sheet, buf, pos, i);
-        i += 1;
     }
     pos
 }
@@ -168,10 +160,8 @@ fn put_moves(bytes: &[u8], buf: &mut [u8], at: usize) -> usize
 {
     let n = entry_count(bytes);
     let mut pos = at;
-    let mut i: u8 = 0;
-    while i < n {
+    for i in 0..n {
         pos = put_move(bytes, buf, pos, i);
-        i += 1;
     }
     pos
 }
@@ -183,10 +173,8 @@ fn put_befores(bytes: &[u8], buf: &mut [u8], at: usize) -> usize
 {
     let n = in_count(bytes);
     let mut pos = at;
-    let mut i: u8 = 0;
-    while i < n {
+    for i in 0..n {
         pos = put_before(bytes, buf, pos, i);
-        i += 1;
     }
     pos
 }
@@ -198,10 +186,8 @@ fn put_afters(bytes: &[u8], buf: &mut [u8], at: usize) -> usize
 {
     let n = out_count(bytes);
     let mut pos = at;
-    let mut i: u8 = 0;
-    while i < n {
+    for i in 0..n {
         pos = put_after(bytes, buf, pos, i);
-        i += 1;
     }
     pos
 }
@@ -233,13 +219,10 @@ fn put_steps(sheet: &[u8], buf: &mut [u8], at: usize) -> usize
     requires { StepsFit sheet.now at (length buf.old) }
     ensures { Wrote (steps_text sheet.now) at buf.old result buf.new }
 {
-    let mut left = transition_count(sheet);
+    let n = transition_count(sheet);
     let mut pos = at;
-    let mut k: u8 = 0;
-    while 0 < left {
+    for k in 0..n {
         pos = put_step(sheet, buf, pos, k);
-        k += 1;
-        left -= 1;
     }
     pos
 }
@@ -251,8 +234,7 @@ fn put_net(sheet: &[u8], buf: &mut [u8]) -> usize
     requires { (checked sheet.now ≡ Accepted) × (text_room ≤ length buf.old) }
     ensures { Filled (sheet_text sheet.now) buf.old result buf.new }
 {
-    let n = place_count(sheet);
-    let a = put_one(buf, 0, b"places ", n);
+    let a = put_one(buf, 0, b"places ", place_count(sheet));
     let b = put_parts(sheet, buf, a);
     let c = put_couplings(sheet, buf, b);
     put_steps(sheet, buf, c)
@@ -266,8 +248,7 @@ pub fn print_sheet(sheet: &[u8], buf: &mut [u8]) -> Printed
     ensures buf_after { buf.new ≡ sets buf.old 0 (text_printed sheet.now) }
     ensures result_bound { end_of result ≤ text_room }
 {
-    let answer = check_sheet(sheet);
-    match answer {
+    match check_sheet(sheet) {
         Verdict::Accepted => Printed::Text(put_net(sheet, buf)),
         Verdict::Refused(n) => Printed::Refused(n),
     }

@@ -12,42 +12,43 @@ pub struct Tally {
     pub refused: u16,
 }
 
-// The highest count.
-const MAX_COUNT: u16 = 65535;
-
 // Which count a command adds to: any other number is refused.
 const FIRED: u8 = 0;
 
 const UNDONE: u8 = 1;
 
 // One more; the highest count stays.
+#[tactic(auto, unfolding(crate::specs::Counts::one_more))]
 fn one_more(n: u16) -> u16
     ensures { result ≡ one_more n }
 {
-    if n < MAX_COUNT { n + 1 } else { n }
+    n.saturating_add(1)
 }
 
 // The tally with one more in one count.
+#[tactic(auto, unfolding(crate::specs::Counts::counted_of))]
 pub fn counted(t: Tally, which: u8) -> Tally
     ensures { result ≡ counted_of t which }
 {
-    let mut next = t;
-    if which == FIRED {
-        next.fired = one_more(t.fired);
-        return next;
+    match which {
+        FIRED => Tally {
+            fired: one_more(t.fired),
+            ..t
+        },
+        UNDONE => Tally {
+            undone: one_more(t.undone),
+            ..t
+        },
+        _ => Tally {
+            refused: one_more(t.refused),
+            ..t
+        },
     }
-    if which == UNDONE {
-        next.undone = one_more(t.undone);
-        return next;
-    }
-    next.refused = one_more(t.refused);
-    next
 }
 
 // The lent tally gets one more in one count.
 pub fn count(t: &mut Tally, which: u8)
     ensures { t.new ≡ counted_of t.old which }
 {
-    let next = counted(*t, which);
-    *t = next;
+    *t = counted(*t, which);
 }

@@ -1,13 +1,13 @@
 -- Laws of stores into a buffer: one run of stores after another, a copy, and a text written piece by piece.
 -- Assumes nothing.
 use mathlib.Core.Path.{◌≡◌, refl, sym, ap, ◌∙◌}
-use Prim.Native.Nat.{ℕ, suc, ◌+◌, ◌≤◌, ◌<◌}
-use native.Mathlib.Numerals.{add-one}
-use native.Mathlib.Nat.{add-zero, add-suc, suc-add, suc-ne-zero, zero-add, le_of_lt}
+use Prim.Native.Nat.{ℕ, suc, ◌+◌, ◌≤◌}
+use native.Mathlib.Nat.{add-zero, add-suc, suc-add, suc-ne-zero, zero-add}
 use native.Mathlib.Omega.{arith}
-use mathlib.Core.List.{List, [], ◌∷◌, ◌++◌}
-use lib.ListN.{length, get_or, set, take, drop, length-append}
-use lib.Seq.{sets, sets-eq, set_comm, take-suc, length-take-le}
+use mathlib.Core.List.{List, [], ◌∷◌, ◌++◌, append_assoc}
+use lib.ListN.{length, set, take, drop, length-append}
+use lib.Seq.{sets, sets-eq, set_comm, drop-drop}
+use borrow.Rule.Slice.PartMut.{put_mid}
 use Rattle.text.specs.Writes.{Wrote}
 
 shift : (i n : ℕ) → i + suc n ≡ suc i + n
@@ -39,13 +39,11 @@ module _ {A : Type 0} where
       let e : 0 + length vs ≡ length vs = zero-add (length vs) in
       sets-eq vs l 0 (rw e h) ∙ rw e
 
--- a copy takes one element more
-pub copied_more : (b₀ word : List ℕ) (at i : ℕ) → i < length word → set (sets b₀ at (take i word)) (at + i) (get_or word i 0) ≡ sets b₀ at (take (i + 1) word)
-copied_more b₀ word at i h =
-    let e : length (take i word) ≡ i = length-take-le i word (le_of_lt h) in
-    let s : set (sets b₀ at (take i word)) (at + length (take i word)) (get_or word i 0) ≡ _ = sets-snoc (take i word) b₀ at (get_or word i 0) in
-    let q : at + length (take i word) ≡ at + i = ap (λ (k : ℕ). at + k) e in
-    ap (λ (k : ℕ). set (sets b₀ at (take i word)) k (get_or word i 0)) (sym q) ∙ s ∙ sym (rw (add-one i, take-suc word i 0))
+-- a copy into the part from `at` on, of k elements
+pub copied : (at k : ℕ) (l ws now : List ℕ) → now ≡ ws → k ≡ length ws → at + k ≤ length l → put_mid at k l now ≡ sets l at ws
+copied at k l ws now n e h =
+    let room : at + length ws ≤ length l = omega arith in
+    rw (n, drop-drop k at l, e) (sym (append_assoc (take at l) ws (drop (at + length ws) l)) ∙ sym (sets-eq ws l at room))
 
 -- a buffer l in which the text vs now stands from at on, up to k
 pub record Written (l : List ℕ) (at : ℕ) (vs : List ℕ) (k : ℕ) (now : List ℕ) : Type 0 where

@@ -7,19 +7,17 @@ ghost use Rattle.text.specs.Decimal.{digits};
 ghost use Rattle.text.specs.Writes.{Wrote};
 
 // How many digits `put_digits` writes: as many as n has, and at most `places`.
-fn digit_count(n: u32, places: usize) -> usize
-    ensures { result ≡ length (digits places n) }
+pub fn digit_count(n: u32, places: usize) -> usize
+    ensures value { result ≡ length (digits places n) }
+    ensures upper_bound { result ≤ places }
 {
     let mut unit: u64 = 1;
     let mut count = 1;
-    while unit * 10 <= n as u64 {
+    while unit * 10 <= u64::from(n) {
         unit *= 10;
         count += 1;
     }
-    if places < count {
-        return places;
-    }
-    count
+    count.min(places)
 }
 
 // n in decimal, where it has at most `places` digits; of a longer number the last ones. Answers where the text ends.
@@ -31,10 +29,8 @@ pub fn put_digits(buf: &mut [u8], at: usize, n: u32, places: usize) -> usize
 {
     let count = digit_count(n, places);
     let mut rest = n;
-    let mut j = count;
-    while 0 < j {
-        j -= 1;
-        buf[at + j] = (48 + rest % 10) as u8;
+    for j in (0..count).rev() {
+        buf[at + j] = b'0' + (rest % 10) as u8;
         rest /= 10;
     }
     at + count
@@ -45,10 +41,6 @@ pub fn put_word(buf: &mut [u8], at: usize, word: &[u8]) -> usize
     requires { at + length word.now ≤ length buf.old }
     ensures { Wrote word.now at buf.old result buf.new }
 {
-    let mut i = 0;
-    while i < word.len() {
-        buf[at + i] = word[i];
-        i += 1;
-    }
-    at + i
+    buf[at..at + word.len()].copy_from_slice(word);
+    at + word.len()
 }

@@ -21,8 +21,8 @@ module _ (n : ℕ) (b : List ℕ) (w v : ℕ) where
 pub returns-then-refusal-ne0 : goal.returns-then-refusal-ne0
 returns-then-refusal-ne0 c = by_number _ c.args.block.now _ _ c.if-refusal-ne0.true
 
-pub returns-then-short : goal.returns-then-short
-returns-then-short c = by-room _ c.args.block.now _ _ c.if-refusal-ne0.false (sym c.unfit-short.ensures ∙ c.if-short.true)
+pub returns-then-unfit : goal.returns-then-unfit
+returns-then-unfit c = by-room _ c.args.block.now _ _ c.if-refusal-ne0.false (sym c.unfit.ensures ∙ c.if-unfit.true)
 
-pub returns-else-short : goal.returns-else-short
-returns-else-short c = by-none _ c.args.block.now _ _ c.if-refusal-ne0.false (sym c.unfit-short.ensures ∙ c.if-short.false)
+pub returns-else-unfit : goal.returns-else-unfit
+returns-else-unfit c = by-none _ c.args.block.now _ _ c.if-refusal-ne0.false (sym c.unfit.ensures ∙ c.if-unfit.false)

@@ -7,10 +7,10 @@ use Rattle.marking.specs.Form.{padded}
 use Rattle.fresh_marking.proofs.start_marking.Goals as goal
 
 pub placed-places-requires : goal.placed-places-requires
-placed-places-requires c = rw c.start_places-s.ensures c.requires.places
+placed-places-requires c = rw c.start_places.ensures c.requires.places
 
 pub returns : goal.returns
 returns c =
-    let p = c.placed-places.ensures ∙ ap (padded max_bases) c.start_places-s.ensures in
+    let p = c.placed-places.ensures ∙ ap (padded max_bases) c.start_places.ensures in
     let k = c.start_bond_count-count.ensures ∙ sym (length-table (start_bond_count c.args.sheet.now) (nth_start_bond c.args.sheet.now)) in
-    λ i. record { places = p i; count = k i; lo = c.start_ends-ends.ensures.0 i; hi = c.start_ends-ends.ensures.1 i }
+    λ i. record { places = p i; count = k i; lo = c.start_ends.ensures.0 i; hi = c.start_ends.ensures.1 i }

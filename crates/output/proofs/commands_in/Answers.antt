@@ -11,4 +11,4 @@ renamed : (n k m : ℕ) (s r : List ℕ) → r ≡ take n (drop (2 + k) s) → k
 renamed n k m s r e f = e ∙ ap (λ (x : ℕ). take n (drop (2 + x) s)) f
 
 pub returns : goal.returns
-returns c = renamed (3 * max_commands) _ _ c.args.input.now _ c.bytes_from.ensures c.word_at-length.ensures.value
+returns c = renamed (3 * max_commands) _ _ c.args.input.now _ c.bytes_from.ensures c.word_at.ensures.value

@@ -29,7 +29,7 @@ put_answers-at-requires c =
       space = omega arith;
       gives = done.ensures;
     } in
-    (omega arith, few, search rules, search rules, values_low _ b _ _ _ _ _ _ _ given)
+    rw c.how_many.ensures (omega arith, few, search rules, search rules, values_low _ b _ _ _ _ _ _ _ given)
 
 pub put_closing-requires : goal.put_closing-requires
 put_closing-requires c =
@@ -45,9 +45,9 @@ put_closing-requires c =
       space = omega arith;
       gives = done.ensures;
     } in
-    let bases = c.base_count-bases.ensures in
+    let bases = c.base_count.ensures in
     let least = (promised c.args.sheet.now c.requires.2).bases.1 in
-    (omega (arith, c.put_answers-at.ensures.upper_bound, few), omega (arith, bases, least), bonds-low _ b _ _ _ _ _ _ _ given, live-low _ b _ _ _ _ _ _ _ given)
+    (omega (arith, c.put_answers-at.ensures.upper_bound, few, c.how_many.ensures), omega (arith, bases, least), bonds-low _ b _ _ _ _ _ _ _ given, live-low _ b _ _ _ _ _ _ _ given)
 
 pub returns : goal.returns
 returns c =
@@ -64,8 +64,9 @@ returns c =
       gives = done.ensures;
     } in
     let lines = c.put_answers-at.ensures in
+    let filled = rw c.how_many.ensures at lines.filled in
     let closing = c.put_closing.ensures in
     record {
-      filled = session-pieces _ b _ _ _ _ _ _ _ given c.args.buf.now _ c.base_count-bases.ensures lines.filled closing.wrote;
-      upper_bound = omega (arith, lines.upper_bound, closing.upper_bound, few);
+      filled = session-pieces _ b _ _ _ _ _ _ _ given c.args.buf.now _ c.base_count.ensures filled closing.wrote;
+      upper_bound = omega (arith, lines.upper_bound, closing.upper_bound, few, c.how_many.ensures);
     }

@@ -5,4 +5,4 @@ use lib.ListN.{take, drop}
 use Rattle.output.proofs.sheet_in.Goals as goal
 
 pub returns : goal.returns
-returns c = c.bytes_from.ensures ∙ ap (λ (k : ℕ). take k (drop 2 c.args.input.now)) c.word_at-length.ensures.value
+returns c = c.bytes_from.ensures ∙ ap (λ (k : ℕ). take k (drop 2 c.args.input.now)) c.word_at.ensures.value

@@ -6,7 +6,7 @@ pub put_session-requires : goal.put_session-requires
 put_session-requires c =
     let sheet = c.sheet_in-sheet.result.now in
     let told = start-accepted sheet c.start-begun.result c.start-begun.ensures.value c.in-Accepted.is in
-    (c.requires, few_bytes c.args.input.now _ c.commands_in-commands.ensures, told.0, told.1)
+    (c.requires, few_bytes c.args.input.now _ c.commands_in.ensures, told.0, told.1)
 
 pub returns-in-Accepted : goal.returns-in-Accepted
 returns-in-Accepted c =
@@ -14,7 +14,7 @@ returns-in-Accepted c =
     let sheet = c.sheet_in-sheet.result.now in
     let told = start-accepted sheet c.start-begun.result c.start-begun.ensures.value c.in-Accepted.is in
     record {
-      filled = written-accepted input sheet _ c.args.buf.now c.sheet_in-sheet.ensures c.commands_in-commands.ensures told.0 c.put_session.ensures.filled;
+      filled = written-accepted input sheet _ c.args.buf.now c.sheet_in-sheet.ensures c.commands_in.ensures told.0 c.put_session.ensures.filled;
       upper_bound = c.put_session.ensures.upper_bound;
     }
 

@@ -12,7 +12,7 @@ use Rattle.page.proofs.page.Goals as goal
 
 pub returns : goal.returns
 returns c =
-    let over : length c.args.list.now ≤ c.loop-i.i = omega arith in
-    paged-of c.args.list.now c.args.number c.args.buf.now _ _ c.loop-i.rows
-    (c.loop-i.invariant.1 ∙ ap (λ (fs : List Firing). foldl with_firing no_rows fs) (take_all c.loop-i.i c.args.list.now over))
+    let over : length c.args.list.now ≤ c.loop-f.f-index = omega arith in
+    paged-of c.args.list.now c.args.number c.args.buf.now _ _ c.loop-f.rows
+    (c.loop-f.invariant ∙ ap (λ (fs : List Firing). foldl with_firing no_rows fs) (take_all c.loop-f.f-index c.args.list.now over))
     c.laid.ensures

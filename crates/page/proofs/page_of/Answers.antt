@@ -12,4 +12,4 @@ pub returns : goal.returns
 returns c =
     let size : length c.args.firings ≡ lent_firings = search rules in
     subst (λ (fs : List Firing). Paged fs c.args.number c.args.buf.now c.page.result c.page.new.buf)
-    (cut-same c.args.firings c.args.n c.at_most-k.result size c.at_most-k.ensures) c.page.ensures
+    (cut-same c.args.firings c.args.n c.at_most.result size c.at_most.ensures) c.page.ensures

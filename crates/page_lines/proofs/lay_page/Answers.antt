@@ -1,8 +1,5 @@
 -- `page_lines::lay_page`: the answers to the goals that the check leaves.
-use native.Mathlib.Omega.{arith}
-use mathlib.Core.Path.{◌∙◌, sym}
-use lib.ListN.{length}
-use Rattle.page_lines.proofs.Answers.{laid-printed, laid-refused, page-room}
+use Rattle.page_lines.proofs.Answers.{laid-printed, laid-refused}
 use Rattle.page_lines.specs.Page.{rows_in}
 use Rattle.page_lines.proofs.lay_page.Goals as goal
 
@@ -10,11 +7,6 @@ pub returns-then-refusal-ne0 : goal.returns-then-refusal-ne0
 returns-then-refusal-ne0 c =
     laid-refused (rows_in c.args.keys.now c.args.steps.now c.args.moved.now c.args.n) c.args.n c.args.number c.args.buf.now c.page_refusal-refusal.result
     c.page_refusal-refusal.ensures c.if-refusal-ne0.true
-
-pub put_page-requires : goal.put_page-requires
-put_page-requires c =
-    let h = page-room (length c.args.buf.now) c.args.n c.args.number (sym c.page_refusal-refusal.ensures ∙ c.if-refusal-ne0.false) in
-    (h.0, omega (arith, h.1), omega (arith, h.1), omega (arith, h.1), h.2)
 
 pub returns : goal.returns
 returns c =

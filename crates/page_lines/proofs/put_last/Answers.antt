@@ -1,11 +1,6 @@
 -- `page_lines::put_last`: the answers to the goals that the check leaves.
-use native.Mathlib.Omega.{arith}
 use Rattle.page_lines.proofs.Lines.{last-pieces}
-use Rattle.text.proofs.Digits.{digits-length}
 use Rattle.page_lines.proofs.put_last.Goals as goal
-
-pub put_rest-requires : goal.put_rest-requires
-put_rest-requires c = omega (arith, digits-length 10 c.args.number)
 
 pub returns : goal.returns
 returns c = last-pieces c.args.buf.now c.args.at c.args.number c.put_word-a.ensures c.put_digits-b.ensures c.put_rest.ensures.0

@@ -7,7 +7,7 @@ returns-then-i-n c =
     let e = line_of c.args.keys.now c.args.steps.now c.args.moved.now c.args.n c.args.i c.if-i-n.true in
     (rw e c.put_row.ensures.0, c.put_row.ensures.1)
 
-pub returns : goal.returns
-returns c =
+pub returns-else-i-n : goal.returns-else-i-n
+returns-else-i-n c =
     let e = line-past c.args.keys.now c.args.steps.now c.args.moved.now c.args.n c.args.i c.if-i-n.false in
     (rw e (blank-pieces c.args.buf.now c.args.at c.put_rest.ensures.0), c.put_rest.ensures.1)

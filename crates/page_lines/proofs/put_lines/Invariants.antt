@@ -1,17 +1,12 @@
--- `page_lines::put_lines`: what its loops keep, and by what they end.
+-- `page_lines::put_lines`: what its loop keeps.
 use mathlib.Core.Path.{◌≡◌}
-use Prim.Native.Nat.{◌*◌, ◌+◌, ◌-◌, ◌≤◌}
-use lib.ListN.{length}
+use Prim.Native.Nat.{◌*◌, ◌+◌, ◌≤◌}
 use Rattle.net.specs.Tests.{table}
-use Rattle.page_lines.specs.Page.{line_at, page_bytes, rows_in}
+use Rattle.page_lines.specs.Page.{line_at, rows_in}
 use Rattle.text.proofs.Writes.{Written}
 use Rattle.text.specs.Joined.{joined}
 use Rattle.page_lines.proofs.put_lines.Given as goal
 
 abbrev pub invariant-loop-i : goal.invariant-loop-i
 invariant-loop-i l =
-    (l.i ≤ 50) × (page_bytes ≤ length l.initial.buf) × (l.n ≤ length l.keys) × (l.n ≤ length l.steps) × (l.n ≤ length l.moved) × (length l.buf ≡ length l.initial.buf)
-    × (l.pos ≡ 41 * l.i) × (l.from ≤ 3276750) × Written l.initial.buf 0 (joined (table l.i (λ j. line_at (rows_in l.keys l.steps l.moved l.n) (l.from + j)))) l.pos l.buf
-
-abbrev pub decreases-loop-i : goal.decreases-loop-i
-decreases-loop-i l = 50 - l.i
+    (l.pos ≡ 41 * l.i) × (l.from ≤ 3276750) × Written l.initial.buf 0 (joined (table l.i (λ j. line_at (rows_in l.keys l.steps l.moved l.n) (l.from + j)))) l.pos l.buf

@@ -1,12 +1,8 @@
 -- `page_lines::put_page`: the answers to the goals that the check leaves.
-use native.Mathlib.Omega.{arith}
 use Rattle.page_lines.proofs.Lines.{page-pieces}
 use Rattle.page_lines.specs.Page.{page_lines, rows_in}
 use Rattle.text.specs.Joined.{joined}
 use Rattle.page_lines.proofs.put_page.Goals as goal
-
-pub put_last-requires : goal.put_last-requires
-put_last-requires c = omega (arith, c.put_lines-a.ensures.1)
 
 pub returns : goal.returns
 returns c =

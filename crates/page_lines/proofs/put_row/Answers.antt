@@ -7,20 +7,11 @@ use Rattle.page_lines.proofs.put_row.Goals as goal
 pub put_right-a-requires : goal.put_right-a-requires
 put_right-a-requires c = (omega arith, omega (arith, fits-5 c.args.key (omega arith)))
 
-pub put_word-b-requires : goal.put_word-b-requires
-put_word-b-requires c = omega (arith, c.put_right-a.ensures.1)
-
 pub put_right-c-requires : goal.put_right-c-requires
 put_right-c-requires c = (omega (arith, c.put_right-a.ensures.1), omega (arith, fits-3 c.args.step (omega arith)))
 
-pub put_word-d-requires : goal.put_word-d-requires
-put_word-d-requires c = omega (arith, c.put_right-c.ensures.1, c.put_right-a.ensures.1)
-
 pub put_right-e-requires : goal.put_right-e-requires
 put_right-e-requires c = (omega (arith, c.put_right-c.ensures.1, c.put_right-a.ensures.1), omega (arith, fits-4 c.args.moved (omega arith)))
-
-pub put_rest-requires : goal.put_rest-requires
-put_rest-requires c = omega (arith, c.put_right-e.ensures.1, c.put_right-c.ensures.1, c.put_right-a.ensures.1)
 
 pub returns : goal.returns
 returns c = (

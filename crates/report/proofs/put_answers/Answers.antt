@@ -3,36 +3,25 @@ use borrow.Author.Rules.{rules}
 use native.Mathlib.Omega.{arith}
 use mathlib.Core.Path.{◌≡◌, ◌∙◌}
 use native.Mathlib.Nat.{zero-add}
-use Rattle.text.proofs.Writes.{written_none}
 use Rattle.text.proofs.Joined.{table-written}
 use Rattle.report.specs.Said.{line_at}
 use Rattle.report.proofs.put_answers.Goals as goal
 
-pub loop-i-init : goal.loop-i-init
-loop-i-init c = (search rules, search rules, search rules, search rules, search rules, c.requires.4, search rules, search rules, written_none _ _)
-
 pub put_line-pos-requires : goal.put_line-pos-requires
-put_line-pos-requires c = (search rules, c.loop-i.invariant.5 c.loop-i.i c.loop-i-test.true)
+put_line-pos-requires c = (search rules, c.requires.4 c.loop-i.i c.loop-i-test.true)
 
 pub loop-i-preserved : goal.loop-i-preserved
 loop-i-preserved c =
     let done = c.put_line-pos.ensures in (
-      search rules,
-      search rules,
-      search rules,
-      search rules,
-      search rules,
-      c.loop-i.invariant.5,
-      search rules,
-      omega (arith, done.upper_bound, c.loop-i.invariant.7),
-      table-written (line_at c.args.words.now c.args.values.now) c.loop-i.i c.loop-i.invariant.8 done.wrote,
+      omega (arith, done.upper_bound, c.loop-i.invariant.0),
+      table-written (line_at c.args.words.now c.args.values.now) c.loop-i.i c.loop-i.invariant.1 done.wrote,
     )
 
 pub returns : goal.returns
 returns c =
     let e : c.loop-i.i ≡ c.args.n = omega arith in
-    let w = c.loop-i.invariant.8 in
+    let w = c.loop-i.invariant.1 in
     record {
       filled = rw (← e) (w.count ∙ zero-add _, w.list);
-      upper_bound = omega (arith, c.loop-i.invariant.7, e);
+      upper_bound = omega (arith, c.loop-i.invariant.0, e);
     }

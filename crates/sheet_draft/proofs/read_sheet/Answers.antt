@@ -4,11 +4,11 @@ use Rattle.sheet_text.specs.declared.Mistake as M
 use mathlib.Core.Path.{ap, sym, ◌∙◌}
 use Rattle.sheet_draft.proofs.read_sheet.Goals as goal
 
-pub returns-then-line-ne0 : goal.returns-then-line-ne0
-returns-then-line-ne0 c = let both = mistaken c.args.text.now c.first_mistake-m.result c.args.buf.now c.first_mistake-m.ensures c.if-line-ne0.true in record { value = both.0; buf_after = both.1 }
+pub returns-then-m-ne0 : goal.returns-then-m-ne0
+returns-then-m-ne0 c = let both = mistaken c.args.text.now c.first_mistake-m.result c.args.buf.now c.first_mistake-m.ensures c.if-m-ne0.true in record { value = both.0; buf_after = both.1 }
 
 pub make-requires : goal.make-requires
-make-requires c = (ap (λ (m : M.Mistake). m.line) (sym c.first_mistake-m.ensures) ∙ c.if-line-ne0.false, c.requires)
+make-requires c = (ap (λ (m : M.Mistake). m.line) (sym c.first_mistake-m.ensures) ∙ c.if-m-ne0.false, c.requires)
 
 pub returns : goal.returns
 returns c =

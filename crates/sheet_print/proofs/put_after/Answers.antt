@@ -5,4 +5,4 @@ use Rattle.sheet_text.specs.declared.Line.TheVariants.{After}
 use Rattle.sheet_print.proofs.put_after.Goals as goal
 
 pub returns : goal.returns
-returns c = wrote-bond c.args.buf.now c.args.at (ascii "after ") After after-row c.out_bond-b.result _ c.out_bond-b.ensures c.put_bond.ensures
+returns c = wrote-bond c.args.buf.now c.args.at (ascii "after ") After after-row c.out_bond.result _ c.out_bond.ensures c.put_bond.ensures

@@ -5,4 +5,4 @@ use Rattle.sheet_text.specs.declared.Line.TheVariants.{Before}
 use Rattle.sheet_print.proofs.put_before.Goals as goal
 
 pub returns : goal.returns
-returns c = wrote-bond c.args.buf.now c.args.at (ascii "before ") Before before-row c.in_bond-b.result _ c.in_bond-b.ensures c.put_bond.ensures
+returns c = wrote-bond c.args.buf.now c.args.at (ascii "before ") Before before-row c.in_bond.result _ c.in_bond.ensures c.put_bond.ensures

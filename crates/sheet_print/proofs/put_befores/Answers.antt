@@ -1,26 +1,20 @@
 -- `sheet_print::put_befores`: the answers to the goals that the check leaves.
-use borrow.Author.Rules.{rules}
 use native.Mathlib.Omega.{arith}
 use mathlib.Core.Path.{◌≡◌}
-use Rattle.text.proofs.Writes.{written_none, written-pair}
+use Rattle.text.proofs.Writes.{written-pair}
 use Rattle.text.proofs.Joined.{table-written}
 use Rattle.format.specs.Arcs.{in_count}
 use Rattle.sheet_print.specs.Pieces.{before_at}
 use Rattle.sheet_print.proofs.Lists.{before-upto}
 use Rattle.sheet_print.proofs.put_befores.Goals as goal
 
-pub loop-i-init : goal.loop-i-init
-loop-i-init c = (search rules, c.in_count-n.ensures, let e = c.in_count-n.ensures in omega arith, search rules, written_none _ _)
-
 pub put_before-pos-requires : goal.put_before-pos-requires
-put_before-pos-requires c = omega (arith, before-upto c.args.bytes.now c.loop-i.i, c.loop-i.invariant.4.count)
+put_before-pos-requires c = omega (arith, before-upto c.args.bytes.now c.loop-i.i, c.loop-i.invariant.count, c.in_count-n.ensures)
 
 pub loop-i-preserved : goal.loop-i-preserved
-loop-i-preserved c =
-    let w = table-written (before_at c.args.bytes.now) c.loop-i.i c.loop-i.invariant.4 c.put_before-pos.ensures in
-    (search rules, c.loop-i.invariant.1, search rules, search rules, w)
+loop-i-preserved c = table-written (before_at c.args.bytes.now) c.loop-i.i c.loop-i.invariant c.put_before-pos.ensures
 
 pub returns : goal.returns
 returns c =
-    let e : c.loop-i.i ≡ in_count c.args.bytes.now = let n = c.loop-i.invariant.1 in omega arith in
-    rw (← e) (written-pair c.loop-i.invariant.4)
+    let e : c.loop-i.i ≡ in_count c.args.bytes.now = omega (arith, c.in_count-n.ensures) in
+    rw (← e) (written-pair c.loop-i.invariant)

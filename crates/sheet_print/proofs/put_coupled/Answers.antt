@@ -5,4 +5,4 @@ use Rattle.sheet_text.specs.declared.Line.TheVariants.{Coupled}
 use Rattle.sheet_print.proofs.put_coupled.Goals as goal
 
 pub returns : goal.returns
-returns c = wrote-bond c.args.buf.now c.args.at (ascii "coupled ") Coupled coupled-row c.start_bond-b.result _ c.start_bond-b.ensures c.put_bond.ensures
+returns c = wrote-bond c.args.buf.now c.args.at (ascii "coupled ") Coupled coupled-row c.start_bond.result _ c.start_bond.ensures c.put_bond.ensures

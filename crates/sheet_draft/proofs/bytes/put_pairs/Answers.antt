@@ -8,7 +8,7 @@ use mathlib.Core.Path.{◌≡◌}
 use Rattle.sheet_draft.proofs.bytes.put_pairs.Goals as goal
 
 pub loop-j-init : goal.loop-j-init
-loop-j-init c = (search rules, search rules, search rules, search rules, search rules, search rules, search rules, written_none _ _)
+loop-j-init c = (search rules, written_none _ _)
 
 pub overflow_cast-offset : goal.overflow_cast-offset
 overflow_cast-offset c =
@@ -21,7 +21,7 @@ overflow_cast-size c =
     omega (arith, u, c.stretch_size-size.ensures)
 
 pub put_pair-pos-requires : goal.put_pair-pos-requires
-put_pair-pos-requires c = omega (arith, c.loop-j.invariant.7.count, all-pairs c.args.from c.loop-j.j c.args.acts.now)
+put_pair-pos-requires c = omega (arith, c.loop-j.invariant.1.count, all-pairs c.args.from c.loop-j.j c.args.acts.now)
 
 pub overflow_add-offset : goal.overflow_add-offset
 overflow_add-offset c =
@@ -33,10 +33,10 @@ loop-j-preserved c =
     let f = stretch_at c.args.acts.now in
     let s = c.stretch_size-size.ensures in
     let m = joined-length-more f c.loop-j.j in
-    let w = pairs-written c.args.from f c.loop-j.j _ _ c.loop-j.invariant.6 s c.loop-j.invariant.7 c.put_pair-pos.ensures in
-    (omega arith, search rules, search rules, search rules, search rules, search rules, omega (arith, m, s), w)
+    let w = pairs-written c.args.from f c.loop-j.j _ _ c.loop-j.invariant.0 s c.loop-j.invariant.1 c.put_pair-pos.ensures in
+    (omega (arith, m, s), w)
 
 pub returns : goal.returns
 returns c =
     let e : c.loop-j.j ≡ c.args.n = omega arith in
-    rw (← e) (written-pair c.loop-j.invariant.7)
+    rw (← e) (written-pair c.loop-j.invariant.1)

@@ -2,26 +2,20 @@
 use Rattle.sheet_draft.proofs.Writing.{joined-upto}
 use Rattle.sheet_draft.specs.Bytes.{stretch_at}
 use Rattle.text.proofs.Joined.{table-written}
-use Rattle.text.proofs.Writes.{written_none, written-pair}
-use borrow.Author.Rules.{rules}
+use Rattle.text.proofs.Writes.{written-pair}
 use native.Mathlib.Omega.{arith}
 use mathlib.Core.Path.{◌≡◌}
 use Rattle.sheet_draft.proofs.bytes.put_stretches.Goals as goal
 
-pub loop-j-init : goal.loop-j-init
-loop-j-init c = (search rules, search rules, c.requires.1, search rules, search rules, written_none _ _)
-
 pub put_stretch-pos-requires : goal.put_stretch-pos-requires
 put_stretch-pos-requires c =
     let u = joined-upto (stretch_at c.args.acts.now) c.args.n c.loop-j.j (omega arith) in
-    (omega arith, c.loop-j.invariant.2 c.loop-j.j (omega arith), omega (arith, u, c.loop-j.invariant.5.count))
+    (omega arith, c.requires.1 c.loop-j.j (omega arith), omega (arith, u, c.loop-j.invariant.count))
 
 pub loop-j-preserved : goal.loop-j-preserved
-loop-j-preserved c =
-    let w = table-written (stretch_at c.args.acts.now) c.loop-j.j c.loop-j.invariant.5 c.put_stretch-pos.ensures in
-    (omega arith, search rules, c.loop-j.invariant.2, search rules, search rules, w)
+loop-j-preserved c = table-written (stretch_at c.args.acts.now) c.loop-j.j c.loop-j.invariant c.put_stretch-pos.ensures
 
 pub returns : goal.returns
 returns c =
     let e : c.loop-j.j ≡ c.args.n = omega arith in
-    rw (← e) (written-pair c.loop-j.invariant.5)
+    rw (← e) (written-pair c.loop-j.invariant)

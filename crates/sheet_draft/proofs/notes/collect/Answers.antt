@@ -1,6 +1,6 @@
 -- `sheet_draft::notes::collect`: the answers to the goals that the check leaves.
 use lib.ListN.{length-set}
-use Rattle.sheet_draft.proofs.Lines.{sofar-begin, sofar-on, note-small, too_large, collected, refused}
+use Rattle.sheet_draft.proofs.Lines.{sofar-begin, sofar-on, note-small, too_large, collected}
 use borrow.Author.Rules.{rules}
 use native.Mathlib.Omega.{arith}
 use mathlib.Core.Path.{refl}
@@ -26,7 +26,7 @@ overflow_add-size c =
 pub returns-then-size-gt65535 : goal.returns-then-size-gt65535
 returns-then-size-gt65535 c =
     let f = c.loop-at.invariant.1 in
-    refused c.args.text.now _ (too_large c.args.text.now c.loop-at.at c.loop-at.n c.loop-at.places c.loop-at.steps c.loop-at.size c.loop-at.acts f c.end_of-to.result c.line_at-l.result c.note_of-x.result (omega arith) c.end_of-to.ensures c.line_at-l.ensures c.note_of-x.ensures c.if-size-gt65535.true)
+    record { too_large = λ _. (too_large c.args.text.now c.loop-at.at c.loop-at.n c.loop-at.places c.loop-at.steps c.loop-at.size c.loop-at.acts f c.end_of-to.result c.line_at-l.result c.note_of-x.result (omega arith) c.end_of-to.ensures c.line_at-l.ensures c.note_of-x.ensures c.if-size-gt65535.true); collected = search rules }
 
 pub offset_bounds-acts-n : goal.offset_bounds-acts-n
 offset_bounds-acts-n c =
@@ -57,4 +57,4 @@ loop-at-preserved c =
 pub returns : goal.returns
 returns c =
     let f = c.loop-at.invariant.1 in
-    collected c.args.text.now c.loop-at.at c.loop-at.n c.loop-at.places c.loop-at.steps c.loop-at.size c.loop-at.acts f (omega arith) _ refl
+    record { too_large = search rules; collected = collected c.args.text.now c.loop-at.at c.loop-at.n c.loop-at.places c.loop-at.steps c.loop-at.size c.loop-at.acts f (omega arith) _ refl }
