@@ -5,14 +5,13 @@ use mathlib.Core.Bool.{Bool, true, false, not, ◌&&◌, ◌||◌}
 use mathlib.Core.List.{List, [], ◌∷◌}
 use Prim.Native.Nat.{ℕ, zero, suc, ◌-◌, ◌<◌}
 use native.Mathlib.Omega.{arith}
-use Rattle.std.specs.Cmp.Lexicographic.{pointwise}
 use lib.Dec.{eqb, ltb}
 use lib.ListN.{length, get_or, set}
 use lib.Seq.{get_or-set_same, get_or-set_other}
 use borrow.Author.Tests.{eqb-true, eqb-false, eq-eqb, ne_eqb, lt-ltb}
 use Rattle.causal.proofs.Tests.{both}
 use Rattle.net.specs.Limits.{max_bases}
-use Rattle.net.specs.Tests.{pick, all, table, same_list}
+use Rattle.net.specs.Tests.{pick, all, table}
 use Rattle.net.specs.Firing.{in_set}
 use Rattle.net.specs.Journal.{LiveLine, common}
 use Rattle.net.proofs.Tests.{fails, all-i, all-at}
@@ -167,4 +166,3 @@ pub movers-all : (ls : List LiveLine) (t : List ℕ) → given_back max_bases ls
 movers-all ls t = table-cong max_bases _ _ (λ p h. ap (λ (b : Bool). pick b (last_mover p ls) (get_or t p 0)) (all_in p h))
 
 -- ---- two tables
-

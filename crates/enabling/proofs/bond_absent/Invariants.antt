@@ -1,11 +1,11 @@
 -- `enabling::bond_absent`: what its loop keeps.
 use mathlib.Core.Path.{◌≡◌}
 use mathlib.Core.Bool.{not}
-use Prim.Native.Nat.{◌-◌, ◌≤◌}
+use Prim.Native.Nat.{◌-◌}
 use Rattle.net.specs.Tests.{any, table}
 use Rattle.net.specs.Net.{has_bond}
 use Rattle.net.specs.declared.Bond.{Bond}
-use Rattle.format.specs.Arcs.{in_count, nth_in_bond}
+use Rattle.format.specs.Arcs.{nth_in_bond}
 use Rattle.marking.specs.Form.{bonds_of}
 use Rattle.enabling.proofs.bond_absent.Given as goal
 

@@ -3,7 +3,6 @@ use mathlib.Core.Path.{refl, sym, ◌∙◌}
 use mathlib.Core.List.{List}
 use Prim.Native.Nat.{ℕ}
 use native.Mathlib.Omega.{arith}
-use borrow.Author.Rules.{rules}
 use Rattle.net.specs.Net.{same_bond}
 use Rattle.format.specs.Sides.{bond_count, nth_bond, side_bonds}
 use Rattle.format.proofs.Loops.{any-on, any_left, any-end, has-any}

@@ -1,8 +1,7 @@
 -- `enabling::kept_labels`: the answers to the goals that the check leaves.
-use borrow.Author.Rules.{rules}
 use native.Mathlib.Omega.{arith}
-use mathlib.Core.Path.{◌≡◌, refl, subst}
-use Prim.Native.Nat.{ℕ, ◌<◌}
+use mathlib.Core.Path.{◌≡◌, subst}
+use Prim.Native.Nat.{ℕ}
 use mathlib.Core.Bool.{not}
 use Rattle.net.specs.Tests.{keep}
 use Rattle.net.specs.Firing.{broken_bond}

@@ -1,8 +1,5 @@
 -- `enabling::kept_labels`: what its loop keeps.
-use mathlib.Core.Path.{◌≡◌}
-use Prim.Native.Nat.{◌+◌, ◌≤◌}
 use mathlib.Core.Bool.{not}
-use Rattle.net.specs.Limits.{max_bonds}
 use Rattle.net.specs.Tests.{keep}
 use Rattle.net.specs.Firing.{broken_bond}
 use Rattle.net.specs.declared.Bond.{Bond}

@@ -3,12 +3,12 @@
 use mathlib.Core.Path.{◌≡◌}
 use mathlib.Core.Bool.{Bool, not}
 use mathlib.Core.List.{List}
-use Prim.Native.Nat.{ℕ, ◌-◌, ◌≤◌}
+use Prim.Native.Nat.{ℕ, ◌-◌}
 use lib.Dec.{eqb}
 use lib.ListN.{get_or}
 use Rattle.net.specs.Tests.{any, table}
 use Rattle.net.specs.declared.Entry.{Entry}
-use Rattle.format.specs.Arcs.{entry_count, nth_entry}
+use Rattle.format.specs.Arcs.{nth_entry}
 use Rattle.enabling.proofs.misplaced.Given as goal
 
 abbrev pub away : List ℕ → Entry → Bool

@@ -1,8 +1,8 @@
 -- `page::page`: what its loop keeps.
 use mathlib.Core.Path.{◌≡◌}
 use mathlib.Core.List.{foldl}
-use Prim.Native.Nat.{◌-◌, ◌≤◌}
-use lib.ListN.{length, take}
+use Prim.Native.Nat.{◌-◌}
+use lib.ListN.{take}
 use Rattle.page.specs.Rows.{no_rows, with_firing}
 use Rattle.page.proofs.page.Given as goal
 

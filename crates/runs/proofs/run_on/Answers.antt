@@ -1,5 +1,5 @@
 -- `runs::run_on`: the answers to the goals that the check leaves.
-use Rattle.std.proofs.Common.{◌≡◌, refl, arith, rules}
+use Rattle.std.proofs.Common.{◌≡◌, refl, arith}
 use Rattle.std.proofs.lemmas.List.{length-set}
 use Rattle.replaying.proofs.Lines.{placed-room, placed-ends}
 use Rattle.sound.proofs.Holds.{placed}

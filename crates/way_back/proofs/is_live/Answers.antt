@@ -1,9 +1,8 @@
 -- `way_back::is_live`: the answers to the goals that the check leaves.
-use Rattle.std.proofs.Common.{◌≡◌, true, false, ℕ, ◌<◌, ap, sym, ◌∙◌, refl, get_or, arith}
+use Rattle.std.proofs.Common.{ℕ, ap, sym, ◌∙◌, get_or, arith}
 use lib.Dec.{eqb, ltb}
 use borrow.Author.Tests.{lt-ltb, le-ltb}
 use Rattle.net.proofs.Firsts.{first-among}
-use Rattle.firings.specs.Search.{keys_in, index_of}
 use Rattle.firings.proofs.Keys.{live-keys}
 use Rattle.way_back.proofs.is_live.Goals as goal
 

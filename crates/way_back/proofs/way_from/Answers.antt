@@ -1,5 +1,4 @@
 -- `way_back::way_from`: the answers to the goals that the check leaves.
-use borrow.Author.Rules.{rules}
 use native.Mathlib.Omega.{arith}
 use mathlib.Core.Path.{◌≡◌, sym, ◌∙◌}
 use Rattle.format.specs.Parts.{bases_of, places_of}
