@@ -75,7 +75,8 @@ fn count_turn(c: &mut [u64], w: &[u64], before: Record, b: &Both, reply: u64) {
 fn turn(b: &mut Both, tally: &mut Tally, c: &mut [u64], w: &mut [u64], last: bool) {
     let before = b.record;
     if let Some(key) = raise_at(c, w) {
-        oracle::raise(&mut b.state, u64::from(key));
+        let key = u64::from(key);
+        oracle::raise(&mut b.state, key);
         b.record = raised(before, key);
     }
     let g = cut(c, w, command_at(c, w, b), last);
