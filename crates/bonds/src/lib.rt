@@ -25,14 +25,13 @@ fn is_less(p: Base, q: Base, b: Bond) -> bool
 
 // How many of the first `count` bonds are less than b: where b stands, or is to stand.
 // The callers' arrays hold a marking in its form: there is room for `count` bonds, and these are in strict order.
-pub fn rank(lo: &[Base], hi: &[Base], count: usize, b: Bond) -> usize
+pub fn rank<'a>(lo: &'a [Base], hi: &'a [Base], count: usize, b: Bond) -> usize
     requires { (count ≤ length lo.now) × (count ≤ length hi.now)
         × Ascending same_bond less_bond (bonds_in lo.now hi.now count) }
     ensures { result ≡ rank_in lo.now hi.now count b }
 {
     let mut from = 0;
     let mut n = count;
-    // Kept: n is halved, and no index is counted.
     while 0 < n {
         let half = n / 2;
         let mid = from + half;
@@ -47,7 +46,7 @@ pub fn rank(lo: &[Base], hi: &[Base], count: usize, b: Bond) -> usize
 }
 
 // Whether b is among the first `count` bonds, by one comparison at its rank k, which the caller has.
-pub fn stands_at(lo: &[Base], hi: &[Base], count: usize, b: Bond, k: usize) -> bool
+pub fn stands_at<'a>(lo: &'a [Base], hi: &'a [Base], count: usize, b: Bond, k: usize) -> bool
     requires count_in_bounds { (count ≤ length lo.now) × (count ≤ length hi.now)
         × Ascending same_bond less_bond (bonds_in lo.now hi.now count) }
     requires k_value { k ≡ rank_in lo.now hi.now count b }
@@ -61,7 +60,7 @@ pub fn stands_at(lo: &[Base], hi: &[Base], count: usize, b: Bond, k: usize) -> b
 }
 
 // Whether b is among the first `count` bonds, which the callers hold in strict order.
-pub fn has_bond(lo: &[Base], hi: &[Base], count: usize, b: Bond) -> bool
+pub fn has_bond<'a>(lo: &'a [Base], hi: &'a [Base], count: usize, b: Bond) -> bool
     requires { (count ≤ length lo.now) × (count ≤ length hi.now)
         × Ascending same_bond less_bond (bonds_in lo.now hi.now count) }
     ensures { result ≡ has_bond b (bonds_in lo.now hi.now count) }

@@ -84,7 +84,6 @@ fn in_line(step: &[u8]) -> bool
     let outs = out_count(step);
     let mut met: u8 = 0;
     let mut i: u8 = 0;
-    // Kept: two counts, of which one waits for the other.
     while (met < ins) & (i < outs) {
         met = met_more(step, met, i);
         i += 1;

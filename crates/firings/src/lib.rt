@@ -30,8 +30,6 @@ impl Firing {
 }
 
 // The live firings as a record keeps them: the firing at i is the numbers at i.
-// Kept: three arrays and a count, since firings_of, which every claim on a record rests on, says the layout so, and a pass over one
-// array takes many entries at a time.
 #[derive(Clone, Copy)]
 pub struct Firings {
     pub live: usize,

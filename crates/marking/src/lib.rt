@@ -14,7 +14,6 @@ ghost use Rattle.marking.specs.Form.{bonds_of, with_bonds, InOrder};
 use bonds::{has_bond, rank, stands_at};
 use net::{Base, Bond, MAX_BASES, MAX_BONDS, Place};
 
-// Kept: the ends in two arrays and a count, since laid and with_bonds, which every claim on a record rests on, say the layout so.
 #[derive(Clone, Copy)]
 pub struct Marking {
     pub places: [Place; MAX_BASES],
