@@ -1,7 +1,7 @@
 // Steps of a list fired in turn from a fresh record, on both engines, and the listing then. The steps of a listing, fired so, give its
 // places and couplings and the very listing.
 use crate::told::{judged_lists, told_differs, told_of};
-use case_records::heard::{HEARD, SAID, commanded};
+use case_records::heard::{begun, commanded};
 use case_records::same_record;
 use case_tools::counts::{judged, unless};
 use generated::drawn::{bytes_of, made};
@@ -14,10 +14,9 @@ use session_start::start;
 fn turn(c: &mut [u64], r: Record, sheet: &[u8], s: &mut [u64], g: u64) -> Record {
     let bytes = bytes_of(g);
     let reply = oracle::command(sheet, &bytes, s);
-    let mut h = [0u64; HEARD];
-    let next = commanded(r, sheet, &bytes, &mut h);
-    judged(c, 0, h[SAID], reply, unless(h[SAID] == reply, 1));
-    next
+    let heard = commanded(r, sheet, &bytes, begun(0));
+    judged(c, 0, heard.said, reply, unless(heard.said == reply, 1));
+    heard.session
 }
 
 // A step fired; twice is then taken back and fired again, so that a serial is used up.

@@ -4,9 +4,10 @@
 use crate::compare::differs;
 use crate::input::lay_commands;
 use ask_tools::both::Both;
-use case_records::heard::{SAID, begun, keep_tally, tally_in};
+use case_records::heard::{Heard, begun};
 use case_tools::counts::{judged, more, unless};
 use generated::rows::{TALLY, noted, part, reply_noted};
+use net::Key;
 use oracle::sets::get;
 use session::block::{BlockCounted, block_with};
 use session_start::start;
@@ -31,16 +32,15 @@ fn same_answers(words: &[u8; MOST], values: &[u16; MOST], w: &[u64]) -> bool {
 fn block_differs(x: BlockCounted, w: &[u64], b: &Both) -> u64 {
     let n = noted(w);
     let last = reply_noted(w, n + 65535);
-    let mut h = begun(0);
-    h[SAID] = last;
-    keep_tally(&mut h, x.tally);
     let o = x.outcome;
-    let ran = o.answer.number() == 0 && o.count as u64 == n;
-    let left = Both {
-        record: o.session,
-        ..*b
+    let heard = Heard {
+        said: last,
+        key: Key(0),
+        session: o.session,
+        tally: x.tally,
     };
-    unless(ran, 256) | differs(&left, &h, last)
+    let ran = o.answer.number() == 0 && o.count as u64 == n;
+    unless(ran, 256) | differs(&heard, b.sheet, &b.state, last)
 }
 
 // Blocks are counted in 8.
@@ -48,7 +48,7 @@ fn handed_in(c: &mut [u64], w: &[u64], b: &Both, block: &[u8]) {
     let mut words = [7u8; MOST];
     let mut values = [777u16; MOST];
     let r = start(b.sheet).session;
-    let tally = tally_in(&begun(get(w, TALLY) % 65536));
+    let tally = begun((get(w, TALLY) % 65536) as u16);
     let x = block_with(r, b.sheet, block, tally, &mut words, &mut values);
     let what = block_differs(x, w, b);
     let answers = unless(same_answers(&words, &values, w), 512);

@@ -40,7 +40,12 @@ pub fn letter_command(w: &[u64]) -> Option<u64> {
 }
 
 // The record with a higher key in the last live firing, if there is one, and a highest given that is not below it: it stays sound.
-pub fn raised(r: Record, key: u16) -> Record {
+// The low two bytes count, and 0 raises nothing.
+pub fn raised(r: Record, raise: u64) -> Record {
+    let key = (raise % 65536) as u16;
+    if key == 0 {
+        return r;
+    }
     let last = r.given.0.max(key);
     let live = r.firings.live;
     if live == 0 {

@@ -1,12 +1,12 @@
 // Compares our record with the second engine's history: how many firings are live, each one's transition, key and moved bases in the order of
 // keys, with every entry after them 0; the table of last movers; the highest key given.
 use ask_tools::altered::with_firings;
-use ask_tools::both::Both;
 use case_records::same_record;
 use case_tools::counts::unless;
 use firings::Firings;
 use least_sets::lines::{count_of, key_at, live_lines, moved_at, step_at};
 use net::MAX_LIVE;
+use session::Record;
 
 fn entries_differ(f: &Firings, h: &[u64]) -> u64 {
     let mut all = unless(f.live == count_of(h), 16);
@@ -20,9 +20,8 @@ fn entries_differ(f: &Firings, h: &[u64]) -> u64 {
 }
 
 // The table of last movers is that of our firings.
-pub fn live_differs(b: &Both) -> u64 {
-    let r = b.record;
+pub fn live_differs(r: Record, s: &[u64]) -> u64 {
     let table = unless(same_record(r, with_firings(r, r.firings)), 64);
-    let last = unless(u64::from(r.given.0) == oracle::given(&b.state), 128);
-    table | last | entries_differ(&r.firings, &live_lines(&b.state))
+    let last = unless(u64::from(r.given.0) == oracle::given(s), 128);
+    table | last | entries_differ(&r.firings, &live_lines(s))
 }

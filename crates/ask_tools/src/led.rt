@@ -1,6 +1,6 @@
 // A record, how many commands led to it, and whether each was answered as expected.
 // After one that was answered otherwise no more are given.
-use case_records::heard::{HEARD, SAID, commanded};
+use case_records::heard::{begun, commanded};
 use generated::drawn::undo_bytes;
 use oracle::{UNDONE, reply};
 use session::Record;
@@ -25,11 +25,11 @@ pub fn go_on(p: Led, sheet: &[u8], bytes: &[u8], reply: u64) -> Led {
     if !p.holds {
         return p;
     }
-    let mut h = [0u64; HEARD];
+    let heard = commanded(p.session, sheet, bytes, begun(0));
     Led {
-        session: commanded(p.session, sheet, bytes, &mut h),
+        session: heard.session,
         count: p.count % 65536 + 1,
-        holds: h[SAID] == reply,
+        holds: heard.said == reply,
     }
 }
 

@@ -4,7 +4,7 @@
 use crate::asking::ask;
 use ask_tools::altered::{WAYS, altered};
 use ask_tools::both::Both;
-use case_records::heard::{HEARD, SAID, commanded};
+use case_records::heard::{begun, commanded};
 use case_records::same_record;
 use case_tools::counts::{ALTERED, judged, more, unless};
 use generated::rows::part;
@@ -15,10 +15,9 @@ use session::Record;
 // A command of kind 1, 2 or 3.
 fn command_differs(r: Record, sheet: &[u8], p: usize) -> u64 {
     let bytes = [(p % 3 + 1) as u8, 0, 0];
-    let mut h = [0u64; HEARD];
-    let next = commanded(r, sheet, &bytes, &mut h);
-    let answer = unless(h[SAID] == oracle::reply(REFUSED, 10), 4096);
-    answer | unless(same_record(r, next), 8192)
+    let heard = commanded(r, sheet, &bytes, begun(0));
+    let answer = unless(heard.said == oracle::reply(REFUSED, 10), 4096);
+    answer | unless(same_record(r, heard.session), 8192)
 }
 
 fn hold(c: &mut [u64], w: &[u64], b: &Both, p: usize) {

@@ -8,7 +8,7 @@ use ask_session::compare::differs;
 use ask_session::counts::count_command;
 use ask_session::letters::{letter_command, raise_at, raised};
 use ask_tools::both::Both;
-use case_records::heard::{HEARD, SAID, begun, commanded};
+use case_records::heard::{begun, commanded};
 use case_tools::counts;
 use case_tools::counts::{COMMAND, SEED, UNCOUPLED, judged, more, unless};
 use generated::drawn::{bytes_of, command_length, command_of};
@@ -20,8 +20,7 @@ use oracle::sets::{get, join, put};
 use oracle::{UNDONE, broken, highest};
 use session::Record;
 use session_start::start;
-
-type Heard = [u64; HEARD];
+use tally::Tally;
 
 // How many commands a session has. Of a block it is by lot, at most one more than the row says; of an input five times the seed where the
 // row says none.
@@ -73,20 +72,24 @@ fn count_turn(c: &mut [u64], w: &[u64], before: Record, b: &Both, reply: u64) {
 }
 
 // The next command, given to both, after serials are raised. What they hold then is compared.
-fn turn(b: &mut Both, h: &mut Heard, c: &mut [u64], w: &mut [u64], last: bool) {
+fn turn(b: &mut Both, tally: &mut Tally, c: &mut [u64], w: &mut [u64], last: bool) {
     let before = b.record;
     if let Some(key) = raise_at(c, w) {
-        oracle::raise(&mut b.state, u64::from(key));
+        let key = u64::from(key);
+        oracle::raise(&mut b.state, key);
         b.record = raised(before, key);
     }
     let g = cut(c, w, command_at(c, w, b), last);
     let bytes = bytes_of(g);
     let given = &bytes[..command_length(g)];
     let reply = oracle::command(b.sheet, given, &mut b.state);
-    b.record = commanded(b.record, b.sheet, given, h);
+    let heard = commanded(b.record, b.sheet, given, *tally);
+    b.record = heard.session;
+    *tally = heard.tally;
     note(w, g, reply);
     put(c, COMMAND, noted(w));
-    judged(c, 0, h[SAID], reply, differs(b, h, reply));
+    let what = differs(&heard, b.sheet, &b.state, reply);
+    judged(c, 0, heard.said, reply, what);
     count_turn(c, w, before, b, reply);
 }
 
@@ -116,18 +119,18 @@ fn ended(c: &mut [u64], w: &[u64], b: &Both) {
 
 // All commands, from a fresh record.
 fn run(c: &mut [u64], w: &mut [u64], sheet: &[u8], record: Record) {
-    let tally = get(w, TALLY) % 65536;
-    let mut h = begun(tally);
+    let tally = (get(w, TALLY) % 65536) as u16;
+    let mut counts = begun(tally);
     let mut b = Both {
         record,
         sheet,
         state: oracle::zeros(),
     };
-    oracle::begin(sheet, &mut b.state, tally);
+    oracle::begin(sheet, &mut b.state, u64::from(tally));
     let n = commands_of(c, w);
     for i in 0..n {
         let last = i + 1 == n;
-        turn(&mut b, &mut h, c, w, last);
+        turn(&mut b, &mut counts, c, w, last);
         if !last && is_asked(w) {
             ask(c, w, &b, 0, None);
         }

@@ -2,7 +2,7 @@
 // cut after so many bytes: from a fresh record the answers are fired 1, undone 1, fired 2, undone 2, ..; from one with nothing live and a
 // highest key given, those above it; a command cut short is refused by 21.
 // All that the block leaves is compared with what its answer makes of it: count, record, tally, and every entry of both lists.
-use case_records::heard::{HEARD, commanded};
+use case_records::heard::{begun, commanded};
 use case_records::same_record;
 use io::{print_decimal, write_all};
 use net::Key;
@@ -84,8 +84,7 @@ fn with_given(r: Record, n: usize) -> Record {
 
 // The record with step 0 fired.
 fn fired(r: Record, sheet: &[u8]) -> Record {
-    let mut h = [0u64; HEARD];
-    commanded(r, sheet, b"\x01\x00\x00", &mut h)
+    commanded(r, sheet, b"\x01\x00\x00", begun(0)).session
 }
 
 // The record after so many bytes: with so many keys more given, of firings that were taken back, and then as it was or with step 0 fired.
@@ -174,14 +173,9 @@ fn lent_of(version: u8, count: u16) -> Lent {
     let mut sheet = sheet_a();
     let record = start(&sheet).session;
     sheet[0] = version;
-    let tally = Tally {
-        fired: count,
-        undone: count,
-        refused: count,
-    };
     Lent {
         record,
-        tally,
+        tally: begun(count),
         sheet,
     }
 }

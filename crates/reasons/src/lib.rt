@@ -6,19 +6,21 @@ ghost use Rattle.std.specs.Prelude.{◌≡◌, List, ℕ, ◌<◌, ◌≤◌};
 ghost use Rattle.net.specs.Firing.{bonds_seen};
 ghost use Rattle.net.specs.Limits.{max_bases, max_bonds, max_live};
 ghost use Rattle.net.specs.Sorted.{Ascending};
-ghost use Rattle.net.specs.Net.{Arcs, Marking, same_bond, less_bond};
+ghost use Rattle.net.specs.Net as N;
+ghost use Rattle.net.specs.Net.{Arcs, same_bond, less_bond};
 ghost use Rattle.format.specs.Arcs.{entry_count, nth_entry, arcs_in};
-ghost use Rattle.bonds.specs.Ends.{bonds_in};
+ghost use Rattle.marking.specs.Form.{bonds_of};
 ghost use Rattle.words.specs.Sets.{set_of};
 ghost use Rattle.labels.specs.Labelled.{Parted};
-ghost use Rattle.firings.specs.Lines.{lying, lines_in};
+ghost use Rattle.firings.specs.Lines.{lines_in};
 ghost use Rattle.net.specs.Tests.{first_at};
 ghost use Rattle.reasons.specs.Reasons.{away_from, absent_from, present_in, torn_from, has_partner, later_at, common_at};
 
-use bonds::has_bond;
 use enabling::is_bond_of;
+use firings::Firings;
 use format::{entry, entry_count, in_bond, in_count, out_bond, out_count};
-use net::{Base, Entry, MAX_BASES, MAX_BONDS, MAX_LIVE, Place};
+use marking::Marking;
+use net::{Base, Entry, MAX_BASES, Place};
 use words::{has_base, shares};
 
 // An entry's base is not at its in-place. `first_away` has entries of bases below the limit.
@@ -41,32 +43,27 @@ pub fn first_away(step: &[u8], places: &[Place; MAX_BASES]) -> u8
 }
 
 // 14: the first in-coupling that is not there. Callers have the bonds of a marking in its form, in strict order, here and below.
-pub fn first_absent(step: &[u8], lo: &[Base; MAX_BONDS], hi: &[Base; MAX_BONDS], count: usize) -> u8
-    requires { (count ≤ max_bonds) × Ascending same_bond less_bond (bonds_in lo.now hi.now count) }
-    ensures { result ≡ first_at (absent_from (bonds_in lo.now hi.now count)) (arcs_in step.now).in_bonds }
+pub fn first_absent(step: &[u8], m: &Marking) -> u8
+    requires { (m.now.count ≤ max_bonds) × Ascending same_bond less_bond (bonds_of m.now) }
+    ensures { result ≡ first_at (absent_from (bonds_of m.now)) (arcs_in step.now).in_bonds }
 {
     let n = in_count(step);
     (0..n)
-        .find(|&i| !has_bond(lo, hi, count, in_bond(step, i)))
+        .find(|&i| !m.has_bond(in_bond(step, i)))
         .unwrap_or(n)
 }
 
 // 15: the first out-coupling that is no in-coupling and is there already.
-pub fn first_present(
-    step: &[u8],
-    lo: &[Base; MAX_BONDS],
-    hi: &[Base; MAX_BONDS],
-    count: usize,
-) -> u8
-    requires { (count ≤ max_bonds) × Ascending same_bond less_bond (bonds_in lo.now hi.now count) }
-    ensures { result ≡ first_at (present_in (arcs_in step.now).in_bonds (bonds_in lo.now hi.now count))
+pub fn first_present(step: &[u8], m: &Marking) -> u8
+    requires { (m.now.count ≤ max_bonds) × Ascending same_bond less_bond (bonds_of m.now) }
+    ensures { result ≡ first_at (present_in (arcs_in step.now).in_bonds (bonds_of m.now))
         (arcs_in step.now).out_bonds }
 {
     let n = out_count(step);
     (0..n)
         .find(|&i| {
             let b = out_bond(step, i);
-            !is_bond_of(step, false, b) && has_bond(lo, hi, count, b)
+            !is_bond_of(step, false, b) && m.has_bond(b)
         })
         .unwrap_or(n)
 }
@@ -75,7 +72,7 @@ pub fn first_present(
 // labels are by the bonds after the firing, here and below.
 fn is_torn(l: &[Base; MAX_BASES], e: Entry, d: Entry) -> bool
     requires { (e.base < max_bases) × (d.base < max_bases) }
-    ensures { (t : Arcs) (s : Marking) → Parted max_bases l.now (bonds_seen t s.bonds) → result ≡ torn_from t s e d }
+    ensures { (t : Arcs) (s : N.Marking) → Parted max_bases l.now (bonds_seen t s.bonds) → result ≡ torn_from t s e d }
 {
     l[usize::from(e.base)] == l[usize::from(d.base)] && e.to != d.to
 }
@@ -84,7 +81,7 @@ fn is_torn(l: &[Base; MAX_BASES], e: Entry, d: Entry) -> bool
 pub fn first_partner(step: &[u8], l: &[Base; MAX_BASES], e: Entry) -> u8
     requires base_lt_max_bases { e.base < max_bases }
     requires by_index { (i : ℕ) → i < entry_count step.now → (nth_entry step.now i).base < max_bases }
-    ensures { (s : Marking) → Parted max_bases l.now (bonds_seen (arcs_in step.now) s.bonds)
+    ensures { (s : N.Marking) → Parted max_bases l.now (bonds_seen (arcs_in step.now) s.bonds)
         → result ≡ first_at (torn_from (arcs_in step.now) s e) (arcs_in step.now).entries }
 {
     let n = entry_count(step);
@@ -99,7 +96,7 @@ pub fn first_partner(step: &[u8], l: &[Base; MAX_BASES], e: Entry) -> u8
 // 16: the first entry that has such a partner.
 pub fn first_torn(step: &[u8], l: &[Base; MAX_BASES]) -> u8
     requires { (i : ℕ) → i < entry_count step.now → (nth_entry step.now i).base < max_bases }
-    ensures { (s : Marking) → Parted max_bases l.now (bonds_seen (arcs_in step.now) s.bonds)
+    ensures { (s : N.Marking) → Parted max_bases l.now (bonds_seen (arcs_in step.now) s.bonds)
         → result ≡ first_at (has_partner (arcs_in step.now) s) (arcs_in step.now).entries }
 {
     let n = entry_count(step);
@@ -113,16 +110,16 @@ pub fn first_torn(step: &[u8], l: &[Base; MAX_BASES]) -> u8
 
 // 20: where the first live firing after the one at i stands that moved a base which that one moved. The callers have found
 // i among the live ones.
-pub fn first_later(moved: &[u64; MAX_LIVE], live: usize, i: usize) -> usize
-    requires { (i < live) × (live ≤ max_live) }
-    ensures { (ts keys : List ℕ) → result ≡ later_at (lines_in max_bases (lying live ts keys moved.now)) i }
+pub fn first_later(f: &Firings, i: usize) -> usize
+    requires { (i < f.now.live) × (f.now.live ≤ max_live) }
+    ensures { result ≡ later_at (lines_in max_bases f.now) i }
 {
-    for j in i + 1..live {
-        if shares(moved[i], moved[j]) {
+    for j in i + 1..f.live {
+        if shares(f.moved[i], f.moved[j]) {
             return j;
         }
     }
-    live
+    f.live
 }
 
 // 20: the first base of both sets.

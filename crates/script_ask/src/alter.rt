@@ -68,7 +68,7 @@ fn low(x: u16) -> u8 {
 fn table_of(f: &Firings) -> [u16; MAX_BASES] {
     let mut table = [0; MAX_BASES];
     let live = f.live.min(MAX_LIVE);
-    mark_back(&mut table, &f.keys, &f.moved, live, u64::MAX);
+    mark_back(&mut table, f, live, u64::MAX);
     table
 }
 

@@ -1,7 +1,7 @@
 // `each`, a question for tests: what `undo last` is answered on the record in hand with one thing altered, in each way from a number to
 // another, each alone. The record in hand and the tally stay as they are.
 use crate::alter::{Thing, altered, with_table};
-use case_records::heard::{HEARD, KEY, SAID, commanded};
+use case_records::heard::{begun, commanded};
 use case_records::same_record;
 use script_lines::form::{number, thing_in};
 use script_lines::state::State;
@@ -28,10 +28,9 @@ fn altered_at(r: Record, thing: Thing, i: u16, x: u16, y: u16) -> Record {
 
 // What `undo last` is answered, as one number (case_records, heard). A refused one has to have serial 0 and the very record.
 fn answer_on(r: Record, sheet: &[u8]) -> Option<u64> {
-    let mut h = [0; HEARD];
-    let after = commanded(r, sheet, b"\x02\x00\x00", &mut h);
-    let said = h[SAID];
-    (said < 131072 || h[KEY] == 0 && same_record(r, after)).then_some(said)
+    let heard = commanded(r, sheet, b"\x02\x00\x00", begun(0));
+    let said = heard.said;
+    (said < 131072 || heard.key.0 == 0 && same_record(r, heard.session)).then_some(said)
 }
 
 // What a line with `each` names: a thing, from a number to another, and two numbers more.

@@ -135,7 +135,7 @@ fn put_way(out: &mut Text, sheet: &[u8], layout: &[u8], w: &WayBack) {
         out.put_text(b"take back");
     }
     for (i, key) in w.keys.iter().enumerate() {
-        put_listed(out, i < w.count, key.0);
+        put_listed(out, i < w.count, usize::from(key.0));
     }
 }
 

@@ -93,8 +93,7 @@ fn why_absent(r: Record, sheet: &[u8], bytes: &[u8]) -> Reason
     ensures { result ≡ absent_by (arcs_of (net_of sheet.now) (transition_named bytes.now)) (held_in sheet.now r).marking }
 {
     let step = step_named(sheet, bytes);
-    let m = r.marking;
-    let i = first_absent(step, &m.lo, &m.hi, m.count);
+    let i = first_absent(step, &r.marking);
     Reason::Absent(in_bond(step, i))
 }
 
@@ -104,8 +103,7 @@ fn why_present(r: Record, sheet: &[u8], bytes: &[u8]) -> Reason
     ensures { result ≡ present_by (arcs_of (net_of sheet.now) (transition_named bytes.now)) (held_in sheet.now r).marking }
 {
     let step = step_named(sheet, bytes);
-    let m = r.marking;
-    let i = first_present(step, &m.lo, &m.hi, m.count);
+    let i = first_present(step, &r.marking);
     Reason::Present(out_bond(step, i))
 }
 
@@ -157,7 +155,7 @@ fn why_later(r: Record, sheet: &[u8], bytes: &[u8]) -> Reason
     let Some(i) = f.index_of(k) else {
         unreachable!();
     };
-    let at = first_later(&f.moved, f.live, i);
+    let at = first_later(&f, i);
     let mine = f.firing_at(i);
     let other = f.firing_at(at);
     let p = first_common(mine.moved, other.moved);

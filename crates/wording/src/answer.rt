@@ -29,7 +29,7 @@ pub fn put_start(out: &mut Text, refusal: u8, length: usize) {
 }
 
 // A number of a list where it is one of those that there are. One behind them is to be 0, and is written where it is not.
-pub fn put_listed(out: &mut Text, mine: bool, n: u16) {
+pub fn put_listed(out: &mut Text, mine: bool, n: usize) {
     if mine || n != 0 {
         out.put_item(n);
     }

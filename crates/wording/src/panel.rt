@@ -42,7 +42,7 @@ pub fn put_lamps(out: &mut Text, r: Record, sheet: &[u8]) {
 pub fn put_movers(out: &mut Text, movers: &[u16; MAX_BASES], n: usize) {
     out.put_text(b"movers");
     for (p, &serial) in movers.iter().enumerate() {
-        put_listed(out, p < n, serial);
+        put_listed(out, p < n, usize::from(serial));
     }
 }
 
@@ -62,6 +62,6 @@ pub fn put_listing(out: &mut Text, r: Record, sheet: &[u8]) {
     let l = listing(r, sheet);
     put_begin(out, l.answer.number(), "listing");
     for (i, step) in l.transitions.iter().enumerate() {
-        put_listed(out, i < l.count, step.0);
+        put_listed(out, i < l.count, usize::from(step.0));
     }
 }

@@ -5,13 +5,13 @@ use Rattle.reasons.proofs.first_later.Goals as goal
 
 pub returns-then-shares : goal.returns-then-shares
 returns-then-shares c =
-    λ ts keys. later-here c.args.live ts keys c.args.moved.now c.args.i c.requires.0 c.loop-j.j (omega arith) (c.loop-j.invariant ts keys)
+    later-here c.args.f.now.live c.args.f.now.transitions c.args.f.now.keys c.args.f.now.moved c.args.i c.requires.0 c.loop-j.j (omega arith) c.loop-j.invariant
     (sym c.shares.ensures ∙ c.if-shares.true)
 
 pub loop-j-preserved : goal.loop-j-preserved
 loop-j-preserved c =
-    λ ts keys. later-on c.args.live ts keys c.args.moved.now c.args.i c.requires.0 c.loop-j.j (omega arith) (c.loop-j.invariant ts keys)
+    later-on c.args.f.now.live c.args.f.now.transitions c.args.f.now.keys c.args.f.now.moved c.args.i c.requires.0 c.loop-j.j (omega arith) c.loop-j.invariant
     (sym c.shares.ensures ∙ c.if-shares.false)
 
 pub returns : goal.returns
-returns c = λ ts keys. later-none c.args.live ts keys c.args.moved.now c.args.i c.requires.0 c.loop-j.j (omega arith) (c.loop-j.invariant ts keys)
+returns c = later-none c.args.f.now.live c.args.f.now.transitions c.args.f.now.keys c.args.f.now.moved c.args.i c.requires.0 c.loop-j.j (omega arith) c.loop-j.invariant

@@ -30,7 +30,7 @@ firing_at-mine-requires c =
 pub firing_at-other-requires : goal.firing_at-other-requires
 firing_at-other-requires c =
     let h = later-here c.args.sheet.now c.args.r c.args.bytes.now c.requires.sound c.requires.answer c.key_named-k.result c.key_named-k.ensures c.in-Some.i c.in-Some.ensures.0
-    c.first_later-at.result (c.first_later-at.ensures c.args.r.firings.transitions c.args.r.firings.keys) in
+    c.first_later-at.result c.first_later-at.ensures in
     let f = live-few c.args.sheet.now c.args.r.marking c.args.r.firings c.args.r.given c.requires.sound.passed in
     omega arith
 
@@ -43,5 +43,5 @@ overflow_cast-result c =
 pub returns : goal.returns
 returns c =
     later-is c.args.sheet.now c.args.r c.args.bytes.now c.requires.sound c.requires.answer c.key_named-k.result c.key_named-k.ensures c.in-Some.i c.in-Some.ensures.0
-    c.first_later-at.result (c.first_later-at.ensures c.args.r.firings.transitions c.args.r.firings.keys)
+    c.first_later-at.result c.first_later-at.ensures
     c.firing_at-mine.result c.firing_at-other.result c.firing_at-mine.ensures c.firing_at-other.ensures c.first_common-p.result c.first_common-p.ensures
