@@ -48,9 +48,7 @@ pub fn first_absent(step: &[u8], m: &Marking) -> u8
     ensures { result ≡ first_at (absent_from (bonds_of m.now)) (arcs_in step.now).in_bonds }
 {
     let n = in_count(step);
-    (0..n)
-        .find(|&i| !m.has_bond(in_bond(step, i)))
-        .unwrap_or(n)
+    (0..n).find(|&i| !m.has_bond(in_bond(step, i))).unwrap_or(n)
 }
 
 // 15: the first out-coupling that is no in-coupling and is there already.
