@@ -193,6 +193,18 @@ pub fn kept_labels(step: &[u8], m: &Marking) -> Labels
     labels
 }
 
+// The same by the labels of the bonds that the transition does not break. What it asks is what `torn_apart` asks. A function of
+// its own, so that room for these labels is made only where a bond is broken.
+fn torn_kept(step: &[u8], m: &Marking) -> bool
+    requires in_order { (m.now.count ≤ max_bonds) × Ascending same_bond less_bond (bonds_of m.now) }
+    requires by_index { (i : ℕ) → i < m.now.count → Within max_bases (ends m.now.lo m.now.hi i) }
+    requires by_index_2 { (i : ℕ) → i < entry_count step.now → (nth_entry step.now i).base < max_bases }
+    ensures { result ≡ torn_with (arcs_in step.now)
+        (keep (λ b. not (broken_bond (arcs_in step.now) b)) (bonds_of m.now)) }
+{
+    torn_with(step, &m.places, &kept_labels(step, m).of)
+}
+
 // 16: two entries with different out-places have bases that the bonds after the firing connect. Those that the transition
 // does not break say the same: an out-bond joins entries of one out-place. One entry has none to differ from. Callers have a
 // good marking of an accepted sheet and labels by its bonds.
@@ -209,5 +221,5 @@ pub fn torn_apart(step: &[u8], m: &Marking, l: &[Base; MAX_BASES]) -> bool
     if breaks_none(step) {
         return torn_with(step, &m.places, l);
     }
-    torn_with(step, &m.places, &kept_labels(step, m).of)
+    torn_kept(step, m)
 }

@@ -126,7 +126,7 @@ fn relabel(labels: &mut Labels, m: &Marking, same: bool)
     if same {
         return;
     }
-    *labels = Labels::of_marking(m);
+    labels.remake(m);
 }
 
 // The labels after a firing: joined by the out-bonds where none was broken, else made anew. `fire_in` has the bonds of a good
@@ -143,7 +143,7 @@ fn label_fired(step: &[u8], labels: &mut Labels, m: &Marking, whole: bool)
         join_out_bonds(step, labels);
         return;
     }
-    *labels = Labels::of_marking(m);
+    labels.remake(m);
 }
 
 // Fires the transition: the bonds that it breaks go out, its out-bonds go in; then every base whose group an entry hits goes to

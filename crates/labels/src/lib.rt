@@ -34,9 +34,22 @@ impl Labels {
         requires by_index { (i : ℕ) → i < m.now.count → Within max_bases (ends m.now.lo m.now.hi i) }
         ensures { Labelled result.of result.members (bonds_of m.now) }
     {
-        let of = label_all(m);
-        let members = members_of(&of);
-        Labels { of, members }
+        let mut labels = Labels {
+            of: [0; MAX_BASES],
+            members: [0; MAX_BASES],
+        };
+        labels.remake(m);
+        labels
+    }
+
+    // The same where there are labels already, whatever they are: in place, so that none are copied.
+    pub fn remake(&mut self, m: &Marking)
+        requires count_in_bounds { m.now.count ≤ max_bonds }
+        requires by_index { (i : ℕ) → i < m.now.count → Within max_bases (ends m.now.lo m.now.hi i) }
+        ensures { Labelled self.new.of self.new.members (bonds_of m.now) }
+    {
+        label_all(&mut self.of, m);
+        set_members(&self.of, &mut self.members);
     }
 
     // The labels of no bonds: each base has its own.
@@ -44,7 +57,8 @@ impl Labels {
         ensures { Labelled result.of result.members [] }
     {
         let of = own_parents();
-        let members = members_of(&of);
+        let mut members = [0; MAX_BASES];
+        set_members(&of, &mut members);
         Labels { of, members }
     }
 
@@ -144,20 +158,19 @@ fn own_parents() -> [Base; MAX_BASES]
 
 // The bonds of the marking united, in their order, until one root is left of the first n bases: further bonds then change
 // nothing. The bonds are of these bases: n is `bases_in`'s.
-fn unite_all(m: &Marking, n: usize) -> [Base; MAX_BASES]
+fn unite_all(l: &mut [Base; MAX_BASES], m: &Marking, n: usize)
     requires count_in_bounds { m.now.count ≤ max_bonds }
     requires n_le_max_bases { (n ≤ max_bases) × ((i : ℕ) → i < m.now.count → Within n (ends m.now.lo m.now.hi i)) }
-    ensures { Spans max_bases result (bonds_of m.now) }
+    ensures { Spans max_bases l.new (bonds_of m.now) }
 {
-    let mut l = own_parents();
+    *l = own_parents();
     let mut roots = n;
     for i in 0..m.count {
-        roots -= unite(&mut l, m.bond_at(i));
+        roots -= unite(l, m.bond_at(i));
         if roots < 2 {
-            return l;
+            return;
         }
     }
-    l
 }
 
 // A number of bases that the bonds are of: one more than the highest.
@@ -173,28 +186,26 @@ fn bases_in(m: &Marking) -> usize
     top as usize + 1
 }
 
-// The label of each base, made over parents. What it asks is what `of_marking` asks.
-fn label_all(m: &Marking) -> [Base; MAX_BASES]
+// The label of each base, made over parents. What it asks is what `remake` asks.
+fn label_all(l: &mut [Base; MAX_BASES], m: &Marking)
     requires count_in_bounds { m.now.count ≤ max_bonds }
     requires by_index { (i : ℕ) → i < m.now.count → Within max_bases (ends m.now.lo m.now.hi i) }
-    ensures { Parted max_bases result (bonds_of m.now) }
+    ensures { Parted max_bases l.new (bonds_of m.now) }
 {
-    let mut l = unite_all(m, bases_in(m));
-    flatten(&mut l);
-    l
+    unite_all(l, m, bases_in(m));
+    flatten(l);
 }
 
 // The set of each label: at first none has a base, then each base goes into its label's. The labels are `label_all`'s.
-fn members_of(l: &[Base; MAX_BASES]) -> [u64; MAX_BASES]
+fn set_members(l: &[Base; MAX_BASES], members: &mut [u64; MAX_BASES])
     requires { (p : ℕ) → p < max_bases → label_in l.now p < max_bases }
-    ensures { (length result ≡ max_bases)
-        × ((x : ℕ) → x < max_bases → set_of max_bases (get_or result x 0)
+    ensures { (length members.new ≡ max_bases)
+        × ((x : ℕ) → x < max_bases → set_of max_bases (get_or members.new x 0)
         ≡ table max_bases (λ q. eqb x (label_in l.now q))) }
 {
-    let mut members = [0; MAX_BASES];
+    *members = [0; MAX_BASES];
     for p in 0..MAX_BASES {
         let x = l[p] as usize;
         members[x] = with_base(members[x], p as Base);
     }
-    members
 }

@@ -43,6 +43,21 @@ reaches-count s at class n h e =
       to = omega (arith, length-drop at s);
     }
 
+-- ---- a run letter by letter
+
+module _ (f : ℕ → Bool) (s : List ℕ) (i : ℕ) where
+  -- the letter at i fails: the run ends here
+  pub past-here : i < length s → f (get_or s i 0) ≡ false → drop i s ≡ past f (drop i s)
+  past-here h e = rw (drop-cons s i 0 h, e)
+
+  -- it passes: the run goes on
+  pub past-on : i < length s → f (get_or s i 0) ≡ true → past f (drop (i + 1) s) ≡ past f (drop i s)
+  past-on h e = rw (drop-cons s i 0 h, e, add-one i)
+
+  -- the text ends
+  pub past_end : length s ≤ i → drop i s ≡ past f (drop i s)
+  past_end h = rw (drop_of_length-le s h)
+
 -- ---- a number by its digits
 
 fold-value : (v : ℕ) (l : List ℕ) → fold more v l ≡ foldl more v l

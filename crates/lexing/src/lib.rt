@@ -53,7 +53,12 @@ pub fn end_of(text: &[u8], at: usize, class: Class) -> usize
     requires { at ≤ length text.now }
     ensures { Reaches text.now at class result }
 {
-    at + text[at..].iter().take_while(|&&c| is_of(class, c)).count()
+    for i in at..text.len() {
+        if !is_of(class, text[i]) {
+            return i;
+        }
+    }
+    text.len()
 }
 
 // One digit more of a number; 65,536 where it is no longer below it.

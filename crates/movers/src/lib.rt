@@ -23,9 +23,11 @@ fn last_mover(f: &Firings, p: Base) -> Option<usize>
 {
     let mut last = None;
     for i in 0..f.live {
-        if has_base(f.moved[i], p) {
-            last = Some(i);
-        }
+        last = if has_base(f.moved[i], p) {
+            Some(i)
+        } else {
+            last
+        };
     }
     last
 }

@@ -10,11 +10,14 @@ use crate::counts::{count_of, width_of};
 use encode::put_pair;
 use text::put_word;
 
-// The first w of an act's three bytes.
+// The first w of an act's three bytes. Most acts that are passed are of another tag, and give none.
 fn put_some(buf: &mut [u8], at: usize, w: usize, x: u64) -> usize
     requires { (w ≤ 3) × (at + w ≤ length buf.old) }
     ensures { Wrote (bytes_at w x) at buf.old result buf.new }
 {
+    if w == 0 {
+        return at;
+    }
     let three = [
         (x / 65536 % 256) as u8,
         (x / 256 % 256) as u8,

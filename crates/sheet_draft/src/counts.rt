@@ -15,7 +15,11 @@ pub fn width_of(x: u64, tag: u64, w: usize) -> usize
 pub fn count_of(acts: &[u64], tag: u64) -> usize
     ensures { result ≡ count_of tag acts.now }
 {
-    acts.iter().filter(|&&x| x / 16777216 == tag).count()
+    let mut n = 0;
+    for &x in acts {
+        n += width_of(x, tag, 1);
+    }
+    n
 }
 
 // Each count of a step is of one byte. The caller's steps are fewer than a sheet's bytes, as below.

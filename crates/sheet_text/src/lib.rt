@@ -49,11 +49,12 @@ pub fn line_of(text: &[u8], at: usize) -> Line
     requires { at ≤ length text.now }
     ensures { result ≡ line_of (row 8 (drop at text.now)) }
 {
+    if has_form(text, at, b"", 8) {
+        return Line::Blank;
+    }
     let p = nth_number(text, at, 0, 8);
     let q = nth_number(text, at, 1, 8);
-    if has_form(text, at, b"", 8) {
-        Line::Blank
-    } else if has_form(text, at, b"places 255", 8) {
+    if has_form(text, at, b"places 255", 8) {
         Line::Places(p)
     } else if has_form(text, at, b"part 255 at 255", 8) {
         Line::Part(p, q)

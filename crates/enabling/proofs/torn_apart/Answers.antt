@@ -23,6 +23,3 @@ returns-then-breaks_none c =
     let t = arcs_in c.args.step.now in
     let bs : List Bond = bonds_of c.args.m.now in
     c.torn_with.ensures bs c.requires.by_index_2.1 ∙ ap (torn_with t) (sym (left-all t (sym c.breaks_none.ensures ∙ c.if-breaks_none.true) bs))
-
-pub returns : goal.returns
-returns c = c.torn_with-2.ensures _ c.kept_labels.ensures.parted

@@ -5,4 +5,4 @@ pub returns-then-same : goal.returns-then-same
 returns-then-same c = c.requires.labelled c.if-same.true
 
 pub returns : goal.returns
-returns c = c.of_marking.ensures
+returns c = c.remake.ensures

@@ -2,4 +2,4 @@
 use Rattle.labels.proofs.label_all.Goals as goal
 
 pub returns : goal.returns
-returns c = c.flatten.ensures _ c.unite_all-l.ensures
+returns c = c.flatten.ensures _ c.unite_all.ensures

@@ -9,7 +9,7 @@ use Rattle.labels.proofs.Roots.{roots-own, spans-rest}
 use Rattle.labels.proofs.unite_all.Goals as goal
 
 pub loop-i-init : goal.loop-i-init
-loop-i-init c = (sym (roots-own max_bases c.args.n _ c.requires.n_le_max_bases.0 c.own_parents-l.ensures), spans-own max_bases _ c.own_parents-l.ensures)
+loop-i-init c = (sym (roots-own max_bases c.args.n _ c.requires.n_le_max_bases.0 c.own_parents.ensures), spans-own max_bases _ c.own_parents.ensures)
 
 pub unite-roots-requires : goal.unite-roots-requires
 unite-roots-requires c =

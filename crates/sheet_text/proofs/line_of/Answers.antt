@@ -18,7 +18,7 @@ pub returns-then-has_form-2 : goal.returns-then-has_form-2
 unfolding line_of
 returns-then-has_form-2 c =
     let ts : List Token = row 8 (drop c.args.at c.args.text.now) in
-    rw (is-blank ts _ false (c.has_form.ensures, c.if-has_form.false), is-places ts _ true (c.has_form-else-has_form.ensures, c.if-has_form-2.true)) (λ i. Places (c.nth_number-p.ensures i))
+    rw (is-blank ts _ false (c.has_form.ensures, c.if-has_form.false), is-places ts _ true (c.has_form-2.ensures, c.if-has_form-2.true)) (λ i. Places (c.nth_number-p.ensures i))
 
 pub returns-then-has_form-3 : goal.returns-then-has_form-3
 unfolding line_of
@@ -26,7 +26,7 @@ returns-then-has_form-3 c =
     let ts : List Token = row 8 (drop c.args.at c.args.text.now) in
     rw (
       is-blank ts _ false (c.has_form.ensures, c.if-has_form.false),
-      is-places ts _ false (c.has_form-else-has_form.ensures, c.if-has_form-2.false),
+      is-places ts _ false (c.has_form-2.ensures, c.if-has_form-2.false),
       is-part ts _ true (c.has_form-else-has_form-2.ensures, c.if-has_form-3.true),
     ) (λ i. Part (c.nth_number-p.ensures i) (c.nth_number-q.ensures i))
 
@@ -36,7 +36,7 @@ returns-then-has_form-4 c =
     let ts : List Token = row 8 (drop c.args.at c.args.text.now) in
     rw (
       is-blank ts _ false (c.has_form.ensures, c.if-has_form.false),
-      is-places ts _ false (c.has_form-else-has_form.ensures, c.if-has_form-2.false),
+      is-places ts _ false (c.has_form-2.ensures, c.if-has_form-2.false),
       is-part ts _ false (c.has_form-else-has_form-2.ensures, c.if-has_form-3.false),
       is-coupled ts _ true (c.has_form-else-has_form-3.ensures, c.if-has_form-4.true),
     ) (λ i. Coupled (c.nth_number-p.ensures i) (c.nth_number-q.ensures i))
@@ -47,7 +47,7 @@ returns-then-has_form-5 c =
     let ts : List Token = row 8 (drop c.args.at c.args.text.now) in
     rw (
       is-blank ts _ false (c.has_form.ensures, c.if-has_form.false),
-      is-places ts _ false (c.has_form-else-has_form.ensures, c.if-has_form-2.false),
+      is-places ts _ false (c.has_form-2.ensures, c.if-has_form-2.false),
       is-part ts _ false (c.has_form-else-has_form-2.ensures, c.if-has_form-3.false),
       is-coupled ts _ false (c.has_form-else-has_form-3.ensures, c.if-has_form-4.false),
       is-step ts _ true (c.has_form-else-has_form-4.ensures, c.if-has_form-5.true),
@@ -59,7 +59,7 @@ returns-else-has_form-5 c =
     let ts : List Token = row 8 (drop c.args.at c.args.text.now) in
     rw (
       is-blank ts _ false (c.has_form.ensures, c.if-has_form.false),
-      is-places ts _ false (c.has_form-else-has_form.ensures, c.if-has_form-2.false),
+      is-places ts _ false (c.has_form-2.ensures, c.if-has_form-2.false),
       is-part ts _ false (c.has_form-else-has_form-2.ensures, c.if-has_form-3.false),
       is-coupled ts _ false (c.has_form-else-has_form-3.ensures, c.if-has_form-4.false),
       is-step ts _ false (c.has_form-else-has_form-4.ensures, c.if-has_form-5.false),

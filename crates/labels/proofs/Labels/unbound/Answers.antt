@@ -3,10 +3,10 @@ use Rattle.net.specs.Limits.{max_bases}
 use Rattle.labels.proofs.Trees.{parted-own}
 use Rattle.labels.proofs.Labels.unbound.Goals as goal
 
-pub members_of-members-requires : goal.members_of-members-requires
-members_of-members-requires c = (parted-own max_bases _ c.own_parents-of.ensures).low
+pub set_members-requires : goal.set_members-requires
+set_members-requires c = (parted-own max_bases _ c.own_parents-of.ensures).low
 
 pub returns : goal.returns
 returns c =
     let P = parted-own max_bases _ c.own_parents-of.ensures in
-    record { parted = P; size = c.members_of-members.ensures.0; holds = λ p h. c.members_of-members.ensures.1 _ (P.low p h) }
+    record { parted = P; size = c.set_members.ensures.0; holds = λ p h. c.set_members.ensures.1 _ (P.low p h) }

@@ -1,10 +1,10 @@
--- `labels::members_of`: the answers to the goals that the check leaves.
+-- `labels::set_members`: the answers to the goals that the check leaves.
 use Rattle.std.proofs.Common.{ℕ, ◌<◌, ◌∙◌, List, refl, arith}
 use Rattle.std.proofs.lemmas.List.{length-set}
 use Rattle.net.specs.Limits.{max_bases}
 use Rattle.labels.specs.Labelled.{label_in}
 use Rattle.labels.proofs.Gathering.{gather_none, gather-turn, gather-end}
-use Rattle.labels.proofs.members_of.Goals as goal
+use Rattle.labels.proofs.set_members.Goals as goal
 
 pub loop-p-init : goal.loop-p-init
 loop-p-init c = (refl, gather_none max_bases c.args.l.now _ refl)
